@@ -1,0 +1,5 @@
+pub mod Boards
+pub mod Examples
+pub mod Shelves
+pub mod Stakes
+pub mod Throws

@@ -1,0 +1,5 @@
+mod Steps
+mod Chains
+mod Closings
+mod Streams
+mod Roots

@@ -1,0 +1,9 @@
+// Tests of all layers.
+#[cfg(test)]
+mod digests;
+#[cfg(test)]
+mod hashing;
+#[cfg(test)]
+mod states;
+#[cfg(test)]
+mod steps;

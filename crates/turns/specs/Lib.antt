@@ -1,0 +1,7 @@
+pub mod Bytes
+pub mod Kinds
+pub mod Lawful
+pub mod Layout
+pub mod Proper
+pub mod Refusals
+pub mod Written

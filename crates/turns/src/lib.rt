@@ -1,0 +1,37 @@
+// Refusals, states, turns, and lawful steps over any game.
+mod bytes;
+mod game;
+mod lawful;
+mod layer;
+mod layout;
+mod reading;
+mod refusal;
+mod state;
+mod writing;
+
+pub use bytes::all_zero;
+pub use bytes::same_bytes;
+pub use game::Game;
+pub use layer::Layer;
+pub use layer::LayerDisplay;
+pub use layer::LayerPartialEq;
+pub use layout::STATE_LEN;
+pub use reading::digest;
+pub use refusal::NONE;
+pub use refusal::Reason;
+pub use refusal::ReasonDisplay;
+pub use refusal::ReasonPartialEq;
+pub use refusal::Refusal;
+pub use refusal::RefusalDisplay;
+pub use refusal::RefusalPartialEq;
+pub use state::Amounts;
+pub use state::AmountsPartialEq;
+pub use state::DATA_LEN;
+pub use state::Kind;
+pub use state::KindDisplay;
+pub use state::KindPartialEq;
+pub use state::Position;
+pub use state::Seat;
+pub use state::SeatPartialEq;
+pub use state::State;
+pub use state::Terms;
