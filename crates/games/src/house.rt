@@ -8,7 +8,12 @@ use crate::ttt::TicTacToe;
 use crate::ttt::TicTacToeGame;
 use turns::Game;
 
-// Whether the house has a game of this code. What its games mean is seen at worked examples.
+// What the games mean is seen at worked examples.
+fn examples()
+    ensures { λ _. ⌜ Worked-examples ⌝ }
+{}
+
+// Whether the house has a game of this code.
 pub fn is_house_code(code: u8) -> bool
     ensures answer { λ r. ⌜ r ≡ house-codes code ⌝ }
     ensures examples { λ _. ⌜ Worked-examples ⌝ }
@@ -17,5 +22,6 @@ pub fn is_house_code(code: u8) -> bool
         first: RockPaperScissors,
         second: TicTacToe,
     };
+    examples();
     shelf.knows(code)
 }

@@ -1,6 +1,7 @@
 // The digests of messages that other tools have given.
 use crate::digests::DIGESTS;
 use crate::digests::LONGEST;
+use crate::hex::spelled;
 use hash::Sha256;
 use hash::sha256;
 use std::test::*;
@@ -13,51 +14,25 @@ fn pattern() -> [u8; LONGEST] {
     bytes
 }
 
-fn nibble(digit: u8) -> u8 {
-    match digit {
-        b'0'..=b'9' => digit - b'0',
-        b'a'..=b'f' => digit - b'a' + 10,
-        _ => 0,
-    }
-}
-
-// Whether the digest is the one that 64 hexadecimal digits spell.
-fn is_spelled(digest: &[u8; 32], hex: &str) -> bool {
-    let digits = hex.as_bytes();
-    if digits.len() != 64 {
-        return false;
-    }
-    for (i, byte) in digest.iter().enumerate() {
-        let (Some(high), Some(low)) = (digits.get(2 * i), digits.get(2 * i + 1)) else {
-            return false;
-        };
-        if *byte / 16 != nibble(*high) || *byte % 16 != nibble(*low) {
-            return false;
-        }
-    }
-    true
-}
-
 #[test]
 fn standard_examples() -> Result<(), Fail> {
-    check(is_spelled(
-        &sha256(b""),
-        "e3b0c44298fc1c149afbf4c8996fb92427ae41e4649b934ca495991b7852b855",
-    ))?;
-    check(is_spelled(
-        &sha256(b"abc"),
-        "ba7816bf8f01cfea414140de5dae2223b00361a396177a9cb410ff61f20015ad",
-    ))?;
-    check(is_spelled(
-        &sha256(b"abcdbcdecdefdefgefghfghighijhijkijkljklmklmnlmnomnopnopq"),
-        "248d6a61d20638b8e5c026930c3e6039a33ce45964ff2167f6ecedd419db06c1",
-    ))?;
-    check(is_spelled(
-        &sha256(
+    check(
+        sha256(b"") == spelled("e3b0c44298fc1c149afbf4c8996fb92427ae41e4649b934ca495991b7852b855"),
+    )?;
+    check(
+        sha256(b"abc")
+            == spelled("ba7816bf8f01cfea414140de5dae2223b00361a396177a9cb410ff61f20015ad"),
+    )?;
+    check(
+        sha256(b"abcdbcdecdefdefgefghfghighijhijkijkljklmklmnlmnomnopnopq")
+            == spelled("248d6a61d20638b8e5c026930c3e6039a33ce45964ff2167f6ecedd419db06c1"),
+    )?;
+    check(
+        sha256(
             b"abcdefghbcdefghicdefghijdefghijkefghijklfghijklmghijklmnhijklmnoijklmnopjklmnopqklmnopqrlmnopqrsmnopqrstnopqrstu",
-        ),
-        "cf5b16a778af8380036ce59e7b0492370b249b11e8f07a51afac45037afee9d1",
-    ))
+        )
+            == spelled("cf5b16a778af8380036ce59e7b0492370b249b11e8f07a51afac45037afee9d1"),
+    )
 }
 
 #[test]
@@ -67,10 +42,10 @@ fn a_million_letters() -> Result<(), Fail> {
     for _ in 0..1000 {
         hasher.update(&piece);
     }
-    check(is_spelled(
-        &hasher.finish(),
-        "cdc76e5c9914fb9281a1c7e284d73e67f1809a48a497200e046d39ccc7112cd0",
-    ))
+    check(
+        hasher.finish()
+            == spelled("cdc76e5c9914fb9281a1c7e284d73e67f1809a48a497200e046d39ccc7112cd0"),
+    )
 }
 
 #[test]
@@ -80,7 +55,7 @@ fn every_length() -> Result<(), Fail> {
         let Some(message) = bytes.get(0..n) else {
             return Err(Fail::new("the pattern is too short"));
         };
-        check(is_spelled(&sha256(message), digest))?;
+        check(sha256(message) == spelled(digest))?;
     }
     Ok(())
 }
@@ -94,5 +69,5 @@ fn uneven_pieces() -> Result<(), Fail> {
     hasher.update(&bytes[1..63]);
     hasher.update(&bytes[63..66]);
     hasher.update(&bytes[66..130]);
-    check(is_spelled(&hasher.finish(), DIGESTS[130]))
+    check(hasher.finish() == spelled(DIGESTS[130]))
 }

@@ -4,4 +4,5 @@ pub mod Lawful
 pub mod Layout
 pub mod Proper
 pub mod Refusals
+pub mod Words
 pub mod Written

@@ -1,5 +1,7 @@
 ghost use mathlib.Core.Path.{_≡_};
+ghost use Rattle.std.specs.declared.option.Option.the-variants.{Some};
 ghost use Rattle.turns.specs.Refusals.{layer-number};
+ghost use Rattle.turns.specs.Words.{layer-words};
 use std::fmt;
 
 // Which part of the house refused.
@@ -19,7 +21,9 @@ impl Layer {
         self as u8
     }
 
-    fn words(self) -> &'static str {
+    fn words(self) -> &'static str
+        ensures { λ r. ⌜ now r ≡ layer-words self ⌝ }
+    {
         match self {
             Layer::Game => "game",
             Layer::Scheme => "scheme",
@@ -31,6 +35,8 @@ impl Layer {
 }
 
 pub impl fmt::Display for Layer as LayerDisplay {
+    ghost shown = { λ x. Some (layer-words x) };
+
     fn fmt<W: fmt::Write>(&self, f: &mut fmt::Formatter<W>) -> fmt::Result {
         f.write_str(self.words())
     }

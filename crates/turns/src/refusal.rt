@@ -1,5 +1,7 @@
 ghost use mathlib.Core.Path.{_≡_};
+ghost use Rattle.std.specs.declared.option.Option.the-variants.{Some};
 ghost use Rattle.turns.specs.Refusals.{reason-number};
+ghost use Rattle.turns.specs.Words.{reason-words, match-words, blamed-words, refusal-words};
 use crate::layer::Layer;
 use crate::layer::LayerDisplay;
 use crate::layer::LayerPartialEq;
@@ -46,9 +48,11 @@ impl Reason {
         self as u8
     }
 
-    fn words(self) -> &'static str {
+    fn words(self) -> &'static str
+        ensures { λ r. ⌜ now r ≡ reason-words self ⌝ }
+    {
         match self {
-            Reason::Length => "the state is not 96 bytes long",
+            Reason::Length => "the state has a wrong length",
             Reason::Mark => "the mark or the version is not that of a state",
             Reason::OtherMatch => "the state is of another docket, match or game",
             Reason::Kind => "the kind does not fit the turn",
@@ -82,6 +86,8 @@ impl Reason {
 }
 
 pub impl fmt::Display for Reason as ReasonDisplay {
+    ghost shown = { λ x. Some (reason-words x) };
+
     fn fmt<W: fmt::Write>(&self, f: &mut fmt::Formatter<W>) -> fmt::Result {
         f.write_str(self.words())
     }
@@ -100,21 +106,48 @@ pub struct Refusal {
 
 pub const NONE: u8 = 255;
 
+// The match of a refusal, where there is one.
+#[derive(Drop)]
+struct AtMatch(u8);
+
+impl fmt::Display for AtMatch as AtMatchDisplay {
+    ghost shown = { λ x. Some (match-words (x .0)) };
+
+    fn fmt<W: fmt::Write>(&self, f: &mut fmt::Formatter<W>) -> fmt::Result {
+        if self.0 == NONE {
+            return f.write_str("");
+        }
+        let number = self.0;
+        write!(f, ", match {number}")
+    }
+}
+
+// The state that a refusal blames, where there is one: its seat and its turn.
+#[derive(Drop)]
+struct Blamed(u8, u8);
+
+impl fmt::Display for Blamed as BlamedDisplay {
+    ghost shown = { λ x. Some (blamed-words (x .0) (x .1)) };
+
+    fn fmt<W: fmt::Write>(&self, f: &mut fmt::Formatter<W>) -> fmt::Result {
+        if self.1 == NONE {
+            return f.write_str("");
+        }
+        let seat = self.0;
+        let turn = self.1;
+        write!(f, ", seat {seat}, turn {turn}")
+    }
+}
+
 pub impl fmt::Display for Refusal as RefusalDisplay {
+    ghost shown = { λ x. Some (refusal-words x) };
+
     fn fmt<W: fmt::Write>(&self, f: &mut fmt::Formatter<W>) -> fmt::Result {
         let number = self.reason.number();
         let reason = self.reason;
         let layer = self.layer;
-        write!(f, "refused {number}: {reason} ({layer}")?;
-        if self.at_match != NONE {
-            let at_match = self.at_match;
-            write!(f, ", match {at_match}")?;
-        }
-        if self.turn != NONE {
-            let seat = self.seat;
-            let turn = self.turn;
-            write!(f, ", seat {seat}, turn {turn}")?;
-        }
-        f.write_str(")")
+        let at = AtMatch(self.at_match);
+        let blamed = Blamed(self.seat, self.turn);
+        write!(f, "refused {number}: {reason} ({layer}{at}{blamed})")
     }
 }

@@ -1,5 +1,7 @@
 ghost use mathlib.Core.Path.{_≡_};
+ghost use Rattle.std.specs.declared.option.Option.the-variants.{Some};
 ghost use Rattle.turns.specs.Kinds.{kind-at, kind-number, seat-at};
+ghost use Rattle.turns.specs.Words.{kind-words};
 use std::fmt;
 
 // One of the two places at a match.
@@ -50,6 +52,17 @@ impl Kind {
         self as u8
     }
 
+    fn words(self) -> &'static str
+        ensures { λ r. ⌜ now r ≡ kind-words self ⌝ }
+    {
+        match self {
+            Kind::PreFund => "PreFund",
+            Kind::PostFund => "PostFund",
+            Kind::Game => "Game",
+            Kind::Conclude => "Conclude",
+        }
+    }
+
     // The kind that a byte names at a turn, if it fits that turn.
     pub fn at(turn: u8, byte: u8) -> Option<Kind>
         ensures { λ r. ⌜ r ≡ kind-at turn byte ⌝ }
@@ -65,15 +78,10 @@ impl Kind {
 }
 
 pub impl fmt::Display for Kind as KindDisplay {
+    ghost shown = { λ x. Some (kind-words x) };
+
     fn fmt<W: fmt::Write>(&self, f: &mut fmt::Formatter<W>) -> fmt::Result {
-        f.pad(
-            match self {
-                Kind::PreFund => "PreFund",
-                Kind::PostFund => "PostFund",
-                Kind::Game => "Game",
-                Kind::Conclude => "Conclude",
-            },
-        )
+        f.pad(self.words())
     }
 }
 

@@ -1,0 +1,3 @@
+pub mod Ladders
+pub mod Places
+pub mod Registers

@@ -1,0 +1,4 @@
+pub mod Calls
+pub mod Keys
+pub mod Meaning
+pub mod Registers
