@@ -98,7 +98,8 @@ ASKED = [
 
 throws, throw_digests = told(0, 1, THROWS, (8, 2))
 marks, mark_digests = told(1, 2, MARKS, (8, 2))
-lines = ["Two matches of docket 1 were recorded, each with dues 6 and 4 and a stake of 2.", ""]
+lines = [f"The house has a game of code {code}." for code in (1, 2)]
+lines += ["Two matches of docket 1 were recorded, each with dues 6 and 4 and a stake of 2.", ""]
 lines += ["Match 0, Rock-Paper-Scissors:"] + throws
 lines += ["Match 1, Tic-Tac-Toe:"] + marks
 lines += ["Moves that are wrong, and what they get:"]

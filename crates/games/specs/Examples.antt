@@ -2,7 +2,6 @@ use mathlib.Core.Path.{_≡_}
 use mathlib.Core.List.{List, _∷_, _++_}
 use mathlib.Core.Bool.{Bool, true, false}
 use Prim.Native.Nat.{ℕ, _/_, _%_}
-use lib.Dec.{eqb}
 use lib.ListN.{length, replicate}
 use Rattle.std.specs.declared.option.Option.the-variants.{Some, None}
 use Rattle.hash.specs.Sha256.{sha-256}
@@ -10,19 +9,9 @@ use Rattle.turns.specs.Kinds.{kind-at}
 use Rattle.turns.specs.Lawful.{lawful-step}
 use Rattle.turns.specs.declared.state.Kind.{Kind}
 use Rattle.turns.specs.declared.state.Kind.the-variants as K
-use Rattle.turns.specs.declared.state.Position.{Position}
 use Rattle.turns.specs.declared.state.State.{State}
 use Rattle.turns.specs.declared.state.Terms.{Terms}
-use Rattle.games.specs.Boards.{board-lawful}
-use Rattle.games.specs.Shelves.{shelf-codes, shelf-lawful}
-use Rattle.games.specs.Throws.{throws-lawful}
-
--- the house's shelf: Rock-Paper-Scissors, then Tic-Tac-Toe
-abbrev pub house-codes : ℕ → Bool
-house-codes = shelf-codes (λ code. eqb code 1) (λ code. eqb code 2)
-
-abbrev pub house-lawful : ℕ → ℕ → ℕ → Position → Position → Bool
-house-lawful = shelf-lawful (λ code. eqb code 1) throws-lawful board-lawful
+use Rattle.games.specs.House.{house-lawful}
 
 -- a match with dues (6, 4) and stake 2, and its states
 module _ (code : ℕ) where

@@ -12,6 +12,7 @@ use games::Shelf;
 use games::ShelfGame;
 use games::TicTacToe;
 use games::TicTacToeGame;
+use games::is_house_code;
 use judge::judge;
 use onetime::OneTime;
 use onetime::OneTimeScheme;
@@ -38,6 +39,15 @@ fn verdict(rt: &LibcRuntime, good: bool) -> io::Result<()> {
     };
     println!(rt, "{words}")?;
     println!(rt)
+}
+
+fn tell_house(rt: &LibcRuntime) -> io::Result<()> {
+    for code in 0..=255u8 {
+        if is_house_code(code) {
+            println!(rt, "The house has a game of code {code}.")?;
+        }
+    }
+    Ok(())
 }
 
 fn enrol_seats<S: Scheme>(
@@ -115,6 +125,7 @@ fn main(rt: LibcRuntime) -> io::Result<()> {
     let marking = terms(1, 2);
     let throws = rock_paper_scissors(&throwing);
     let marks = tic_tac_toe(&marking);
+    tell_house(&rt)?;
     println!(
         rt,
         "Two matches of docket 1 were recorded, each with dues 6 and 4 and a stake of 2."
