@@ -19,8 +19,9 @@ use Rattle.turns.specs.Lawful.{same-amounts}
 use Rattle.turns.specs.Layout.{marked, docket-of, match-of, code-of, turn-of, kind-byte, position-of, state-of}
 use Rattle.turns.specs.Refusals.{Rung, rung, refuse, blame, first-found}
 
-abbrev pub sum : Amounts → ℕ
-sum a = a .seat0 + a .seat1
+-- what both seats have together
+abbrev pub total : Amounts → ℕ
+total a = a .seat0 + a .seat1
 
 -- before the game the amounts are the dues and there is no data
 abbrev pub funding : Kind → Bool
@@ -32,9 +33,9 @@ funding K.Conclude = false
 -- the amounts add up to the match's total, and fit the kind
 unfoldable pub amounts-fit : Terms → Kind → Position → Bool
 amounts-fit t kind p =
-    eqb (sum (p .amounts)) (sum (t .dues)) && cond (funding kind) (same-amounts (p .amounts) (t .dues) && all-zero (p .«data»)) true
+    eqb (total (p .amounts)) (total (t .dues)) && cond (funding kind) (same-amounts (p .amounts) (t .dues) && all-zero (p .«data»)) true
 
--- why bytes are not a proper state of a match
+-- Bytes are a proper state of a match if none of these applies.
 abbrev pub proper-ladder : Terms → List ℕ → List Rung
 proper-ladder t bytes =
     rung (not (eqb (length bytes) 96)) (refuse R.Length L.Turns (t .«at_match»))

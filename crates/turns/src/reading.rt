@@ -2,7 +2,7 @@ ghost use lib.ListN.{length};
 ghost use mathlib.Core.Path.{_≡_};
 ghost use Rattle.hash.specs.Sha256.{sha-256};
 ghost use Rattle.turns.specs.Layout.{marked, docket-of, state-of, position-of};
-ghost use Rattle.turns.specs.Proper.{proper-refusal, amounts-fit, sum};
+ghost use Rattle.turns.specs.Proper.{proper-refusal, amounts-fit, total};
 ghost use Rattle.turns.specs.Refusals.{refuse, answer};
 use crate::bytes::all_zero;
 use crate::bytes::number;
@@ -69,7 +69,7 @@ fn read_position(bytes: &[u8]) -> Position
 impl Amounts {
     // What both seats have together, which never wraps.
     pub fn sum(&self) -> u128
-        ensures { λ r. ⌜ r ≡ sum (now (self .entry)) ⌝ }
+        ensures { λ r. ⌜ r ≡ total (now (self .entry)) ⌝ }
     {
         u128::from(self.seat0) + u128::from(self.seat1)
     }
