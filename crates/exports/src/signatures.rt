@@ -7,6 +7,7 @@ ghost use Rattle.std.specs.Options.{Cases as BySome};
 ghost use Rattle.onetime.specs.Signatures.{accepted-by};
 use onetime::OneTime;
 use onetime::OneTimeScheme;
+use schemes::PUBLIC_LEN;
 use schemes::Scheme;
 
 const KEY: u8 = 0;
@@ -17,7 +18,7 @@ pub extern "C" fn kofnasig_onetime_root(secret: &[u8], public: &mut [u8]) -> boo
     ensures answer { λ r. ⌜ r ≡ can-root (now (secret .entry)) (now (public .entry)) ⌝ }
     ensures after { λ _. ⌜ now (public .exit) ≡ rooted (now (secret .entry)) (now (public .entry)) ⌝ }
 {
-    if public.len() != 32 {
+    if public.len() != PUBLIC_LEN {
         return false;
     }
     let Some(root) = OneTime::public_key(secret) else {
