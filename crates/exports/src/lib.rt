@@ -1,5 +1,7 @@
 // SHA-256 and the one-time scheme for programs in other languages. A slice passes as a pointer and a length. Each
 // function answers whether it did what was asked; where it did not, what it was lent is as it was.
+#![tactic(auto)]
+
 mod digests;
 mod signatures;
 

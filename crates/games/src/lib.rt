@@ -1,4 +1,6 @@
 // The house's games: Rock-Paper-Scissors, Tic-Tac-Toe, and a shelf of two games.
+#![tactic(auto)]
+
 mod begin;
 mod board;
 mod house;

@@ -1,4 +1,6 @@
 // The one-time scheme: Winternitz chains under a Merkle tree.
+#![tactic(auto)]
+
 mod chains;
 mod digits;
 mod parts;

@@ -1,4 +1,6 @@
 // What a signature scheme is, for code that is written once for every scheme, and the register scheme.
+#![tactic(auto)]
+
 mod keys;
 mod register;
 mod scheme;

@@ -1,4 +1,6 @@
 // Tests of all layers.
+#![tactic(auto)]
+
 #[cfg(test)]
 mod digests;
 #[cfg(test)]

@@ -1,4 +1,6 @@
 // Refusals, states, turns, and lawful steps over any game.
+#![tactic(auto)]
+
 mod bytes;
 mod game;
 mod lawful;

@@ -1,5 +1,7 @@
 // Judges two recorded matches from their first state to a Conclude, and some moves that are wrong; then has both
 // matches signed by each scheme.
+#![tactic(auto)]
+
 mod judge;
 mod played;
 mod records;
