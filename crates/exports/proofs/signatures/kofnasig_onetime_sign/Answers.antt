@@ -14,6 +14,6 @@ returns c =
     let turn = c.args.turn in
     let can = accepted m public secret digest room turn key.enrolled (key.unspent turn) key.long c.sign.result c.sign.ensures.answer in
     record {
-      answer = c.is-ok.ensures.value ∙ can;
+      answer = c.is_ok.ensures.value ∙ can;
       after = left m public secret digest room turn key.enrolled (key.unspent turn) key.long c.sign.result c.sign.new.signature can c.sign.ensures.buffer c.sign.ensures.bytes;
     }

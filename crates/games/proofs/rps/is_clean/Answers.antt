@@ -19,9 +19,9 @@ pub returns-in-3 : goal.returns-in-3
 unfolding clean
 returns-in-3 c = search rules
 
-pub returns-in-default : goal.returns-in-default
+pub returns-in_default : goal.returns-in_default
 unfolding clean
-returns-in-default c =
+returns-in_default c =
     let p = phase c.args.«data».now in
     let not0 : eqb p 0 ≡ false = ne_eqb p 0 (λ e. omega arith) in
     let not1 : eqb p 1 ≡ false = ne_eqb p 1 (λ e. omega arith) in

@@ -14,4 +14,4 @@ unfolding commitment keeps_word
 returns c =
     let d = c.args.«data».now in
     let word = c.sha256.ensures ∙ ap sha_256 (joined d (omega arith)) in
-    c.same-bytes.ensures ∙ ap (λ x. bytes_eq x (commitment d)) word
+    c.same_bytes.ensures ∙ ap (λ x. bytes_eq x (commitment d)) word

@@ -11,9 +11,9 @@ pub returns-in-1 : goal.returns-in-1
 unfolding clean
 returns-in-1 c = search rules
 
-pub returns-in-default : goal.returns-in-default
+pub returns-in_default : goal.returns-in_default
 unfolding clean
-returns-in-default c =
+returns-in_default c =
     let p = phase c.args.«data».now in
     let not0 : eqb p 0 ≡ false = ne_eqb p 0 (λ e. omega arith) in
     let past : ltb p 3 ≡ false = le-ltb p 3 (omega arith) in

@@ -8,8 +8,8 @@ loop-i-init c = sym (chain_none c.args.value c.args.bytes.now)
 
 pub loop-i-preserved : goal.loop-i-preserved
 loop-i-preserved c =
-    chain_step c.args.value c.loop-i.v c.args.bytes.now c.loop-i.i c.after-block-after.result c.loop-i.invariant
-    c.after-block-after.ensures
+    chain_step c.args.value c.loop-i.v c.args.bytes.now c.loop-i.i c.after_block-after.result c.loop-i.invariant
+    c.after_block-after.ensures
 
 pub returns : goal.returns
 returns c =

@@ -7,8 +7,8 @@ loop-i-init c = λ b h g. g
 
 pub loop-i-preserved : goal.loop-i-preserved
 loop-i-preserved c = λ b h g.
-    going_at b h c.eight-scheduled-turned.new.w c.eight-scheduled-turned.result (8 * c.loop-i.i + 8) (8 * (c.loop-i.i + 1)) (omega arith)
-    (c.eight-scheduled-turned.ensures b h (c.loop-i.invariant b h g))
+    going_at b h c.eight_scheduled-turned.new.w c.eight_scheduled-turned.result (8 * c.loop-i.i + 8) (8 * (c.loop-i.i + 1)) (omega arith)
+    (c.eight_scheduled-turned.ensures b h (c.loop-i.invariant b h g))
 
 pub returns : goal.returns
 returns c = λ b h g. going_at b h c.loop-i.w c.loop-i.v (8 * c.loop-i.i) 48 (omega arith) (c.loop-i.invariant b h g)

@@ -9,7 +9,7 @@ loop-t-init c = (sym (words_none c.args.bytes.now), refl)
 pub loop-t-preserved : goal.loop-t-preserved
 loop-t-preserved c =
     let h : c.loop-t.t < length c.loop-t.w = omega arith in
-    let e = take_more_set c.loop-t.w c.loop-t.t c.word-at.result h in
+    let e = take_more_set c.loop-t.w c.loop-t.t c.word_at.result h in
     let f = words_more c.loop-t.t c.args.bytes.now in
     (cc, simp length-set c.loop-t.invariant.1)
 

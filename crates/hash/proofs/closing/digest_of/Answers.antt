@@ -10,16 +10,16 @@ loop-i-init c = (refl, refl)
 
 pub loop-i-preserved : goal.loop-i-preserved
 loop-i-preserved c =
-    let b = c.copy-from-slice.ensures.after ∙ c.to-be-bytes.ensures in
+    let b = c.copy_from_slice.ensures.after ∙ c.to_be_bytes.ensures in
     let four = ap length b in
     let eight : length c.args.value ≡ 8 = search rules in
     let lt : c.loop-i.i < length c.args.value = omega arith in
     let le : 4 * c.loop-i.i ≤ length c.loop-i.out = omega arith in
     let part : 4 * c.loop-i.i + (4 * c.loop-i.i + 4 - 4 * c.loop-i.i) ≤ length c.loop-i.out = omega arith in
-    let long : length c.copy-from-slice.new.self ≡ 4 * c.loop-i.i + 4 - 4 * c.loop-i.i = omega arith in (
-      digest_step c.loop-i.out c.args.value c.copy-from-slice.new.self c.loop-i.i lt le
+    let long : length c.copy_from_slice.new.self ≡ 4 * c.loop-i.i + 4 - 4 * c.loop-i.i = omega arith in (
+      digest_step c.loop-i.out c.args.value c.copy_from_slice.new.self c.loop-i.i lt le
           (b ∙ sym (four_bytes (get_or c.args.value c.loop-i.i 0))) four c.loop-i.invariant.0,
-      length-put_mid (4 * c.loop-i.i) (4 * c.loop-i.i + 4 - 4 * c.loop-i.i) c.loop-i.out c.copy-from-slice.new.self part long
+      length-put_mid (4 * c.loop-i.i) (4 * c.loop-i.i + 4 - 4 * c.loop-i.i) c.loop-i.out c.copy_from_slice.new.self part long
           ∙ c.loop-i.invariant.1,
     )
 

@@ -3,4 +3,4 @@ use Rattle.hash.proofs.Closings.{marked_is}
 use Rattle.hash.proofs.closing.marked.Goals as goal
 
 pub returns : goal.returns
-returns c = marked_is 128 c.args.rest.now c.copy-from-slice.new.self c.copy-from-slice.ensures.after (omega arith)
+returns c = marked_is 128 c.args.rest.now c.copy_from_slice.new.self c.copy_from_slice.ensures.after (omega arith)

@@ -16,7 +16,7 @@ loop-i-preserved c =
     let position = λ (k : ℕ). get_or c.args.positions.now k 0 in
     let f = λ (k : ℕ). walk turn k (position k) (15 - position k) (hash_at k signature) in
     let long = λ (k : ℕ) (h : k < 67). walk_length turn k (position k) (15 - position k) (hash_at k signature) (hash_at_length k signature (omega arith)) in
-    let value = c.walk-value.ensures ∙ ap (λ (x : List ℕ). walk turn i (position i) (15 - position i) x) c.hash-at.ensures in
+    let value = c.walk-value.ensures ∙ ap (λ (x : List ℕ). walk turn i (position i) (15 - position i) x) c.hash_at.ensures in
     run_more f 67 long c.args.out.now i c.loop-i.out c.put.new.bytes c.walk-value.result (omega arith) c.loop-i.invariant c.put.ensures.after value
 
 pub returns : goal.returns

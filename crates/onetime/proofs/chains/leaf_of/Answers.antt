@@ -14,5 +14,5 @@ returns c =
     let short : length blank ≤ 2144 = omega (arith, length-replicate {A = ℕ} 2144 0) in
     c.leaf.ensures
     ∙ ap (leaf turn)
-    (c.write-chains.ensures ∙ run_all f 67 2144 blank short
+    (c.write_chains.ensures ∙ run_all f 67 2144 blank short
     ∙ joined_same f (λ i. chain_at secret turn i 15) 67 (λ i h. ap (λ (n : ℕ). chain_at secret turn i n) (get_or-replicate 67 i 15 0 h)))

@@ -10,7 +10,7 @@ pub loop-position-preserved : goal.loop-position-preserved
 loop-position-preserved c =
     let from = c.args.from in
     let at = c.loop-position.position in
-    c.chain-step-value.ensures
+    c.chain_step-value.ensures
     ∙ walk_more c.args.turn c.args.chain from at (at - from) (at + 1 - from) c.loop-position.value c.args.start c.loop-position.invariant (omega arith) (omega arith)
 
 pub returns : goal.returns

@@ -16,7 +16,7 @@ loop-i-preserved c =
     let f = λ (k : ℕ). chain_at c.args.secret.now c.args.turn k (get_or c.args.positions.now k 0) in
     let none : position - 0 ≡ position = omega arith in
     let value =
-    c.walk-value.ensures ∙ ap (λ (x : List ℕ). walk c.args.turn i 0 (position - 0) x) c.chain-start-start.ensures
+    c.walk-value.ensures ∙ ap (λ (x : List ℕ). walk c.args.turn i 0 (position - 0) x) c.chain_start-start.ensures
     ∙ ap (λ (n : ℕ). walk c.args.turn i 0 n (chain_start c.args.secret.now c.args.turn i)) none in
     let long = λ (k : ℕ) (h : k < 67). chain_length c.args.secret.now c.args.turn k (get_or c.args.positions.now k 0) in
     run_more f 67 long c.args.out.now i c.loop-i.out c.put.new.bytes c.walk-value.result (omega arith) c.loop-i.invariant c.put.ensures.after value

@@ -8,7 +8,7 @@ unfolding digits_of
 returns c =
     record {
       is =
-          ap (λ (ds : List ℕ). get_or ds 64 0 ∷ (get_or ds 65 0 ∷ (get_or ds 66 0 ∷ []))) c.digits-of-digits.ensures.is
+          ap (λ (ds : List ℕ). get_or ds 64 0 ∷ (get_or ds 65 0 ∷ (get_or ds 66 0 ∷ []))) c.digits_of-digits.ensures.is
           ∙ end_digits c.args.digest.now c.requires;
       last = refl;
     }

@@ -15,16 +15,16 @@ loop-level-preserved c =
     let level = c.loop-level.level in
     let index = c.loop-level.index in
     let was = c.loop-level.here in
-    let sibling = c.hash-at-sibling.result in
+    let sibling = c.hash_at-sibling.result in
     let siblings = λ (v : ℕ). hash_at (67 + v) c.args.signature.now in
     let inv = c.loop-level.invariant in
     let here : c.if-index-eq0.here ≡ parent level index was sibling =
     elim c.if-index-eq0.branch [
-      | then-index-eq0 w ↦ w.here_is ∙ w.node-here.ensures ∙ sym (parent_even level index was sibling w.if-index-eq0.true)
-      | else-index-eq0 w ↦ w.here_is ∙ w.node-here-else-index-eq0.ensures ∙ sym (parent_odd level index was sibling w.if-index-eq0.false)
+      | then-index-eq0 w ↦ w.here-is ∙ w.node-here.ensures ∙ sym (parent_even level index was sibling w.if-index-eq0.true)
+      | else-index-eq0 w ↦ w.here-is ∙ w.node-here-else-index-eq0.ensures ∙ sym (parent_odd level index was sibling w.if-index-eq0.false)
     ] in (
       here
-          ∙ ap (λ (x : List ℕ). parent level index was x) c.hash-at-sibling.ensures
+          ∙ ap (λ (x : List ℕ). parent level index was x) c.hash_at-sibling.ensures
           ∙ ap (λ (x : List ℕ). parent level index x (siblings level)) inv.0
           ∙ ap (λ (i : ℕ). parent level i (climb siblings turn c.args.bottom level) (siblings level)) inv.1
           ∙ sym (climb_more siblings turn c.args.bottom level),

@@ -13,9 +13,9 @@ returns c =
     let secret = c.args.secret.now in
     let lent = c.args.out.now in
     let chains =
-    c.write-chains.ensures
-    ∙ ap (λ (ds : List ℕ). joined_to (λ i. chain_at secret turn i (get_or ds i 0)) 67 ++ drop 2144 lent) c.digits-of.ensures.is in
-    let whole = whole_signature secret digest turn c.requires.low c.args.nodes.now c.requires.grown lent c.write-chains.new.out c.write-path.new.signature chains c.write-path.ensures in
+    c.write_chains.ensures
+    ∙ ap (λ (ds : List ℕ). joined_to (λ i. chain_at secret turn i (get_or ds i 0)) 67 ++ drop 2144 lent) c.digits_of.ensures.is in
+    let whole = whole_signature secret digest turn c.requires.low c.args.nodes.now c.requires.grown lent c.write_chains.new.out c.write_path.new.signature chains c.write_path.ensures in
     let long = signature_length secret digest turn in
     record {
       front = ap (take 2304) whole ∙ take_at (signature secret turn digest) (drop 2304 lent) 2304 long;

@@ -24,8 +24,8 @@ loop-level-preserved c =
     let f = λ (v : ℕ). get_or nodes (beside (above start v)) [] in
     let other : c.if-k-eq0.other ≡ beside k =
     elim c.if-k-eq0.branch [
-      | then-k-eq0 w ↦ w.other_is ∙ sym (beside_even k w.if-k-eq0.true)
-      | else-k-eq0 w ↦ w.other_is ∙ sym (beside_odd k w.if-k-eq0.false)
+      | then-k-eq0 w ↦ w.other-is ∙ sym (beside_even k w.if-k-eq0.true)
+      | else-k-eq0 w ↦ w.other-is ∙ sym (beside_odd k w.if-k-eq0.false)
     ] in
     let value : get_or nodes c.if-k-eq0.other [] ≡ f level = ap (λ (n : ℕ). get_or nodes n []) (other ∙ ap beside inv.1) in
     let long : length (get_or nodes c.if-k-eq0.other []) ≡ 32 = c.put.ensures.long in

@@ -11,15 +11,15 @@ small i n value h short v =
     let within : i ≤ 7 = omega arith in
     omega (arith, pow-le-pow_right {n = 256} (lit< tt) within)
 
-pub overflow-mul-value : goal.overflow-mul-value
-overflow-mul-value c =
+pub overflow_mul-value : goal.overflow_mul-value
+overflow_mul-value c =
     let below = small c.loop-byte.byte-index _ c.loop-byte.value c.loop-byte-test.true c.requires c.loop-byte.invariant.1 in
     record { fits = omega (arith, below) }
 
-pub overflow-add-value : goal.overflow-add-value
-overflow-add-value c =
+pub overflow_add-value : goal.overflow_add-value
+overflow_add-value c =
     let below = small c.loop-byte.byte-index _ c.loop-byte.value c.loop-byte-test.true c.requires c.loop-byte.invariant.1 in
-    record { fits = omega (arith, below, (c.type-inv.bytes c.loop-byte.byte-index).fits) }
+    record { fits = omega (arith, below, (c.type_inv.bytes c.loop-byte.byte-index).fits) }
 
 pub loop-byte-preserved : goal.loop-byte-preserved
 loop-byte-preserved c =
@@ -28,7 +28,7 @@ loop-byte-preserved c =
     let h : i < length bytes = omega arith in
     let more = fold_more (λ a x. a * 256 + x) 0 bytes i 0 h in
     let power : 256 ^ (i + 1) ≡ 256 ^ i * 256 = rw add-one (pow-suc 256 i) in
-    (omega (arith, more), omega (arith, power, (c.type-inv.bytes i).fits))
+    (omega (arith, more), omega (arith, power, (c.type_inv.bytes i).fits))
 
 pub returns : goal.returns
 returns c =

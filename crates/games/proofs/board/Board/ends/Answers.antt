@@ -2,10 +2,10 @@ use Rattle.std.proofs.Common.{rules}
 use Rattle.games.specs.Boards.{ends}
 use Rattle.games.proofs.board.Board.ends.Goals as goal
 
-pub returns-then-is-won : goal.returns-then-is-won
+pub returns-then-is_won : goal.returns-then-is_won
 unfolding ends
-returns-then-is-won c = search rules
+returns-then-is_won c = search rules
 
-pub returns-else-is-won : goal.returns-else-is-won
+pub returns-else-is_won : goal.returns-else-is_won
 unfolding ends
-returns-else-is-won c = search rules
+returns-else-is_won c = search rules

@@ -2,14 +2,14 @@ use Rattle.std.proofs.Common.{rules}
 use Rattle.games.specs.Boards.{mark_stakes}
 use Rattle.games.proofs.board.Board.mark_stakes.Goals as goal
 
-pub returns-then-is-won : goal.returns-then-is-won
+pub returns-then-is_won : goal.returns-then-is_won
 unfolding mark_stakes
-returns-then-is-won c = search rules
+returns-then-is_won c = search rules
 
-pub returns-then-is-full : goal.returns-then-is-full
+pub returns-then-is_full : goal.returns-then-is_full
 unfolding mark_stakes
-returns-then-is-full c = search rules
+returns-then-is_full c = search rules
 
-pub returns-else-is-full : goal.returns-else-is-full
+pub returns-else-is_full : goal.returns-else-is_full
 unfolding mark_stakes
-returns-else-is-full c = search rules
+returns-else-is_full c = search rules

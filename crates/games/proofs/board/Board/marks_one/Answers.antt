@@ -2,18 +2,18 @@ use Rattle.std.proofs.Common.{rules}
 use Rattle.games.specs.Boards.{marks}
 use Rattle.games.proofs.board.Board.marks_one.Goals as goal
 
-pub returns-then-one-more : goal.returns-then-one-more
+pub returns-then-one_more : goal.returns-then-one_more
 unfolding marks
-returns-then-one-more c = search rules
+returns-then-one_more c = search rules
 
-pub returns-else-one-more : goal.returns-else-one-more
+pub returns-else-one_more : goal.returns-else-one_more
 unfolding marks
-returns-else-one-more c = search rules
+returns-else-one_more c = search rules
 
-pub returns-then-one-more-2 : goal.returns-then-one-more-2
+pub returns-then-one_more-2 : goal.returns-then-one_more-2
 unfolding marks
-returns-then-one-more-2 c = search rules
+returns-then-one_more-2 c = search rules
 
-pub returns-else-one-more-2 : goal.returns-else-one-more-2
+pub returns-else-one_more-2 : goal.returns-else-one_more-2
 unfolding marks
-returns-else-one-more-2 c = search rules
+returns-else-one_more-2 c = search rules

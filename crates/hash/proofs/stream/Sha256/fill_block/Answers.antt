@@ -6,6 +6,6 @@ pub returns : goal.returns
 returns c = record {
   empty = omega arith;
   fed = λ m fed.
-      filled_fed c.args.self.now c.args.bytes.now c.copy-from-slice.new.self c.after-block-self.result m (search rules) c.requires
-      c.copy-from-slice.ensures.after c.after-block-self.ensures fed;
+      filled_fed c.args.self.now c.args.bytes.now c.copy_from_slice.new.self c.after_block-self.result m (search rules) c.requires
+      c.copy_from_slice.ensures.after c.after_block-self.ensures fed;
 }

@@ -7,27 +7,27 @@ use Rattle.onetime.proofs.Levels.{root_stands}
 use Rattle.onetime.proofs.States.{will_accept}
 use Rattle.onetime.proofs.scheme.OneTime.clear_to_sign.Goals as goal
 
-pub returns-in-err-public : goal.returns-in-err-public
-returns-in-err-public c =
-    let p = err_from_is_err_and c.from-residual.result c.from-residual.ensures.1 in
-    rw (p.1, p.2) (sign_early 2304 32 fits_onetime (onetime_means c.args.self.now) c.args.key c.args.turn c.args.digest.now c.args.secret.now c.args.room _ c.in-err-public.ensures)
+pub returns-in_err-public : goal.returns-in_err-public
+returns-in_err-public c =
+    let p = err_from_is_err_and c.from_residual.result c.from_residual.ensures.1 in
+    rw (p.1, p.2) (sign_early 2304 32 fits_onetime (onetime_means c.args.self.now) c.args.key c.args.turn c.args.digest.now c.args.secret.now c.args.room _ c.in_err-public.ensures)
 
-pub returns-then-not-same-bytes : goal.returns-then-not-same-bytes
-returns-then-not-same-bytes c =
+pub returns-then-not-same_bytes : goal.returns-then-not-same_bytes
+returns-then-not-same_bytes c =
     let m = onetime_means c.args.self.now in
     let secret = c.args.secret.now in
-    let ready = c.in-ok-public.ensures in
-    let top = root_stands secret c.tree-of-nodes.result c.tree-of-nodes.ensures.grown in
-    let wrong : fits_onetime secret c.in-ok-public.public ≡ false = ap (λ (x : List ℕ). bytes_eq x c.in-ok-public.public) (sym top) ∙ sym c.if-not-same-bytes.ensures in
+    let ready = c.in_ok-public.ensures in
+    let top = root_stands secret c.tree_of-nodes.result c.tree_of-nodes.ensures.grown in
+    let wrong : fits_onetime secret c.in_ok-public.public ≡ false = ap (λ (x : List ℕ). bytes_eq x c.in_ok-public.public) (sym top) ∙ sym c.if-not-same_bytes.ensures in
     sign_secret 2304 32 fits_onetime m c.args.key c.args.turn c.args.digest.now secret c.args.room _ ready.unrefused ready.public_known wrong ∙ ap Some (sym c.refusal.ensures)
 
 pub returns-then-self-key : goal.returns-then-self-key
 returns-then-self-key c =
     let m = onetime_means c.args.self.now in
     let secret = c.args.secret.now in
-    let ready = c.in-ok-public.ensures in
-    let top = root_stands secret c.tree-of-nodes.result c.tree-of-nodes.ensures.grown in
-    let right : fits_onetime secret c.in-ok-public.public ≡ true = ap (λ (x : List ℕ). bytes_eq x c.in-ok-public.public) (sym top) ∙ sym c.if-not-same-bytes.ensures in
+    let ready = c.in_ok-public.ensures in
+    let top = root_stands secret c.tree_of-nodes.result c.tree_of-nodes.ensures.grown in
+    let right : fits_onetime secret c.in_ok-public.public ≡ true = ap (λ (x : List ℕ). bytes_eq x c.in_ok-public.public) (sym top) ∙ sym c.if-not-same_bytes.ensures in
     sign_spent 2304 32 fits_onetime m c.args.key c.args.turn c.args.digest.now secret c.args.room _ ready.unrefused ready.public_known right c.if-self-key.true ∙ ap Some (sym c.refusal-then-self-key.ensures)
 
 pub returns : goal.returns
@@ -35,10 +35,10 @@ returns c =
     let o = c.args.self.now in
     let secret = c.args.secret.now in
     let digest = c.args.digest.now in
-    let public = c.in-ok-public.public in
-    let ready = c.in-ok-public.ensures in
-    let top = root_stands secret c.tree-of-nodes.result c.tree-of-nodes.ensures.grown in
-    let right : fits_onetime secret public ≡ true = ap (λ (x : List ℕ). bytes_eq x public) (sym top) ∙ sym c.if-not-same-bytes.ensures in
+    let public = c.in_ok-public.public in
+    let ready = c.in_ok-public.ensures in
+    let top = root_stands secret c.tree_of-nodes.result c.tree_of-nodes.ensures.grown in
+    let right : fits_onetime secret public ≡ true = ap (λ (x : List ℕ). bytes_eq x public) (sym top) ∙ sym c.if-not-same_bytes.ensures in
     record {
       unrefused = sign_none 2304 32 fits_onetime (onetime_means o) c.args.key c.args.turn digest secret c.args.room _ ready.unrefused ready.public_known right c.if-self-key.false;
       key_low = ready.key_low;
@@ -46,6 +46,6 @@ returns c =
       digest_length = ready.digest_length;
       secret_length = ready.secret_length;
       room_enough = ready.room_enough;
-      grown = c.tree-of-nodes.ensures.grown;
+      grown = c.tree_of-nodes.ensures.grown;
       accepted = will_accept o c.args.key c.args.turn digest secret public ready.public_known right ready.turn_low ready.digest_length;
     }

@@ -6,9 +6,9 @@ pub returns-then-key-ge-KEYS : goal.returns-then-key-ge-KEYS
 unfolding enrol_refusal
 returns-then-key-ge-KEYS c = search rules
 
-pub returns-then-is-some : goal.returns-then-is-some
+pub returns-then-is_some : goal.returns-then-is_some
 unfolding enrol_refusal
-returns-then-is-some c = search rules
+returns-then-is_some c = search rules
 
 pub returns : goal.returns
 unfolding enrol_refusal

@@ -9,5 +9,5 @@ returns c =
     let key = c.args.key in
     let long : length keys ≡ 16 = search rules in
     λ k.
-    below_set_cond keys key 15 (Some c.copy-from-slice.new.self) None (omega arith) (omega arith) k
-    ∙ ap (λ (x : List ℕ). cond (eqb k key) (Some x) (public_of c.args.self.now k)) c.copy-from-slice.ensures.after
+    below_set_cond keys key 15 (Some c.copy_from_slice.new.self) None (omega arith) (omega arith) k
+    ∙ ap (λ (x : List ℕ). cond (eqb k key) (Some x) (public_of c.args.self.now k)) c.copy_from_slice.ensures.after

@@ -11,9 +11,9 @@ returns c =
     let digest = c.args.digest.now in
     let may = c.requires in
     let rows : length r.entries ≡ 16 = search rules in
-    let cells : length (get_or r.entries key []) ≡ 32 = c.write-entry.ensures.long in
+    let cells : length (get_or r.entries key []) ≡ 32 = c.write_entry.ensures.long in
     let entries =
-    λ (k t : ℕ). ap (λ (row : List (Option (List ℕ))). get_or (get_or (set r.entries key row) k []) t None) c.write-entry.ensures.after
+    λ (k t : ℕ). ap (λ (row : List (Option (List ℕ))). get_or (get_or (set r.entries key row) k []) t None) c.write_entry.ensures.after
     ∙ get_or-set_cell r.entries key None (omega (arith, may.key_low)) turn (Some digest) (omega (arith, may.turn_low)) k t in
     record {
       spends = sign_spends r _ key turn digest refl entries may.unspent may.known may.turn_low may.digest_length;

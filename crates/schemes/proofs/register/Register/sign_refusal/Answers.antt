@@ -11,8 +11,8 @@ returns-in-Err c =
       cleared = tt;
     }
 
-pub returns-then-not-same-bytes : goal.returns-then-not-same-bytes
-returns-then-not-same-bytes c =
+pub returns-then-not-same_bytes : goal.returns-then-not-same_bytes
+returns-then-not-same_bytes c =
     let m = register_means c.args.self.now in
     let ready = c.in-Ok.ensures in
     let wrong : fits_register c.args.secret.now c.in-Ok.public ≡ false = search rules in
@@ -21,14 +21,14 @@ returns-then-not-same-bytes c =
       cleared = tt;
     }
 
-pub returns-then-is-some : goal.returns-then-is-some
-returns-then-is-some c =
+pub returns-then-is_some : goal.returns-then-is_some
+returns-then-is_some c =
     let m = register_means c.args.self.now in
     let ready = c.in-Ok.ensures in
     let right : fits_register c.args.secret.now c.in-Ok.public ≡ true = search rules in
     let spent : is_some (entry_of c.args.self.now c.args.key c.args.turn) ≡ true = search rules in
     record {
-      found = ap Some c.refusal-then-is-some.ensures ∙ sym (sign_spent 0 32 fits_register m c.args.key c.args.turn c.args.digest.now c.args.secret.now c.args.room _ ready.unrefused ready.public_known right spent);
+      found = ap Some c.refusal-then-is_some.ensures ∙ sym (sign_spent 0 32 fits_register m c.args.key c.args.turn c.args.digest.now c.args.secret.now c.args.room _ ready.unrefused ready.public_known right spent);
       cleared = tt;
     }
 

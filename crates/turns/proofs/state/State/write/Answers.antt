@@ -10,9 +10,9 @@ pub returns : goal.returns
 unfolding bytes_of spelled
 returns c =
     let s = c.args.self.now in
-    let docket = c.to-be-bytes.ensures ∙ spelled_4 s.docket in
-    let seat0 = c.to-be-bytes-2.ensures ∙ spelled_8 s.position.amounts.seat0 in
-    let seat1 = c.to-be-bytes-3.ensures ∙ spelled_8 s.position.amounts.seat1 in
+    let docket = c.to_be_bytes.ensures ∙ spelled_4 s.docket in
+    let seat0 = c.to_be_bytes-2.ensures ∙ spelled_8 s.position.amounts.seat0 in
+    let seat1 = c.to_be_bytes-3.ensures ∙ spelled_8 s.position.amounts.seat1 in
     let small = s.at_match ∷ s.code ∷ s.turn ∷ kind_number s.kind ∷ [] in
     let p1 = put_behind (replicate 96 0) [] mark 0 5 c.put.ensures refl refl refl in
     let p2 = put_behind c.put.new.bytes mark (spelled 4 s.docket) 5 9 (rw docket at c.put-2.ensures) refl refl p1 in
