@@ -4,8 +4,7 @@ use Rattle.turns.specs.Proper.{total}
 use Rattle.turns.specs.declared.state.Amounts.{Amounts}
 use Rattle.turns.specs.declared.state.Position.{Position}
 use Rattle.games.specs.Boards.{board_lawful, board_stakes}
-use Rattle.games.specs.House.{MoneyStays, house_lawful}
-use Rattle.games.specs.Stakes.{moves}
+use Rattle.games.specs.House.{MoneyStays}
 use Rattle.games.specs.Throws.{throws_lawful, throws_stakes}
 
 -- what one seat gains the other loses

@@ -2,7 +2,6 @@ use Rattle.std.proofs.Common.{◌≡◌, ℕ, ◌+◌, ◌*◌, true, ◌&&◌, 
 use lib.Count.{ones, ones_in}
 use Rattle.std.proofs.lemmas.List.{take_at, take_all, drop_at, drop-drop, get_or-append_right}
 use Rattle.std.proofs.lemmas.Slice.Eq.{bytes_eq-Decides}
-use Rattle.std.specs.List.{between}
 use Rattle.std.specs.Str.{bytes_eq}
 use Rattle.hash.specs.Sha256.{sha_256, sha_256_length}
 use Rattle.games.specs.Boards.{board_of, legal_board, clean, holds_line, marks, ends, mark_stakes}

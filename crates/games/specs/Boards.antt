@@ -1,4 +1,4 @@
-use Rattle.std.specs.Prelude.{ℕ, ◌+◌, ◌*◌, Bool, true, false, cond, ◌&&◌, ◌||◌, List, [], ◌∷◌, ◌==◌, bit_and, count_ones, nat_lt, slice_index}
+use Rattle.std.specs.Prelude.{ℕ, ◌+◌, ◌*◌, Bool, false, cond, ◌&&◌, ◌||◌, List, [], ◌∷◌, ◌==◌, bit_and, count_ones, nat_lt, slice_index}
 use Rattle.std.specs.List.{between}
 use Rattle.turns.specs.Bytes.{all_zero}
 use Rattle.turns.specs.declared.state.Amounts.{Amounts}

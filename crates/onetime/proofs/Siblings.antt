@@ -1,7 +1,7 @@
-use Rattle.std.proofs.Common.{◌≡◌, ℕ, zero, suc, ◌+◌, ◌-◌, ◌*◌, ◌/◌, ◌%◌, ◌^◌, ◌<◌, ◌≤◌, cond, eqb, ◌⊎◌, List, [], get_or, sym, refl, ap, ◌∙◌, subst, inl, inr, add-one, arith}
+use Rattle.std.proofs.Common.{◌≡◌, ℕ, zero, suc, ◌+◌, ◌-◌, ◌*◌, ◌/◌, ◌%◌, ◌^◌, ◌<◌, ◌≤◌, eqb, List, [], get_or, refl, ap, ◌∙◌, subst, inl, inr, add-one, arith}
 use Rattle.std.proofs.lemmas.Bool.{cond-true, cond-false, eq-eqb, ne_eqb, cases_eq}
 use Rattle.onetime.specs.Hashes.{node}
-use Rattle.onetime.specs.Trees.{above, beside, climb, Grown, parent, sibling, tree}
+use Rattle.onetime.specs.Trees.{above, beside, climb, Grown, parent, sibling}
 use Rattle.onetime.proofs.Levels.{halves}
 
 pub above_none : (turn : ℕ) → above turn 0 ≡ turn

@@ -1,4 +1,4 @@
-use Rattle.std.proofs.Common.{◌≡◌, ℕ, zero, suc, ◌+◌, ◌-◌, ◌≤◌, List, length, sym, refl, ap, ◌∙◌, add-zero, add_assoc, add-suc, arith}
+use Rattle.std.proofs.Common.{◌≡◌, ℕ, zero, suc, ◌+◌, List, length, refl, add-zero, add_assoc, add-suc}
 use Rattle.hash.specs.Sha256.{sha_256_length}
 use Rattle.onetime.specs.Chains.{chain_at, walk}
 use Rattle.onetime.specs.Hashes.{chain_start, chain_step}

@@ -1,4 +1,4 @@
-use Rattle.std.specs.Prelude.{◌≡◌, ℕ, ◌<◌, ◌≤◌, Bool, true, List, length, is_some, Option, ◌≢◌}
+use Rattle.std.specs.Prelude.{◌≡◌, ℕ, ◌≤◌, Bool, true, List, length, is_some, Option, ◌≢◌}
 
 -- What a scheme means: for each key its public key or none, the turns that are spent, and what is accepted,
 -- which is a key, a turn, a digest and a signature.

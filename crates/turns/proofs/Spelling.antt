@@ -1,7 +1,7 @@
-use Rattle.std.proofs.Common.{◌≡◌, ℕ, zero, suc, ◌+◌, ◌*◌, ◌/◌, ◌%◌, ◌^◌, ◌<◌, List, [], ◌∷◌, ◌++◌, length, take, drop, fold, sym, refl, ap, ◌∙◌, zero-le, mod-eq_of_lt, mul_assoc, add-mul, div-one, arith, lit<, length-append, length-take}
+use Rattle.std.proofs.Common.{◌≡◌, ℕ, zero, suc, ◌+◌, ◌*◌, ◌/◌, ◌%◌, ◌^◌, ◌<◌, List, [], ◌∷◌, ◌++◌, length, take, drop, fold, ap, ◌∙◌, zero-le, mod-eq_of_lt, mul_assoc, add-mul, div-one, arith, lit<, length-append}
 use native.Mathlib.Nat.{pow-succ', pow-le-pow_right}
 use lib.Arith.{mod-mul}
-use Rattle.std.proofs.lemmas.List.{take_at, take_all, length-take-le}
+use Rattle.std.proofs.lemmas.List.{take_at, take_all}
 use lib.Seq.{paste}
 use Rattle.turns.specs.Bytes.{big_endian}
 use Rattle.turns.specs.Layout.{docket_of, position_of, state_of}

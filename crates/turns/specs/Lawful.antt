@@ -1,6 +1,5 @@
 use Rattle.std.specs.Prelude.{ℕ, ◌+◌, Bool, true, false, cond, not, ◌&&◌, List, [], ◌∷◌, Option, ◌==◌}
 use Rattle.std.specs.Str.{bytes_eq}
-use Rattle.turns.specs.declared.layer.Layer.{Layer}
 use Rattle.turns.specs.declared.layer.Layer.TheVariants as L
 use Rattle.turns.specs.declared.refusal.Reason.TheVariants as R
 use Rattle.turns.specs.declared.refusal.Refusal.{Refusal}

@@ -3,7 +3,6 @@ use Rattle.std.specs.Option.{unwrap_or}
 use Rattle.std.specs.List.{between}
 use Rattle.std.specs.Str.{bytes_eq}
 use Rattle.turns.specs.declared.state.Amounts.{Amounts}
-use Rattle.turns.specs.declared.state.Kind.{Kind}
 use Rattle.turns.specs.declared.state.Kind.TheVariants as K
 use Rattle.turns.specs.declared.state.Position.{Position}
 use Rattle.turns.specs.declared.state.State.{State}

@@ -1,4 +1,4 @@
-use Rattle.std.specs.Prelude.{◌≡◌, ℕ, ◌%◌, Bool, false, cond, List, [], ◌∷◌, Some, None, Ok, Err, Option, Result}
+use Rattle.std.specs.Prelude.{ℕ, ◌%◌, Bool, cond, List, [], ◌∷◌, Some, None, Ok, Err, Option, Result}
 use Rattle.turns.specs.declared.refusal.Reason.{Reason}
 use Rattle.turns.specs.declared.refusal.Reason.TheVariants as R
 use Rattle.turns.specs.declared.layer.Layer.{Layer}

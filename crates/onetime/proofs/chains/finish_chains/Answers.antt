@@ -1,4 +1,4 @@
-use Rattle.std.proofs.Common.{◌≡◌, ℕ, ◌+◌, ◌-◌, ◌*◌, ◌<◌, List, ◌++◌, get_or, drop, ap, ◌∙◌, arith}
+use Rattle.std.proofs.Common.{◌≡◌, ℕ, ◌-◌, ◌*◌, ◌<◌, List, ◌++◌, get_or, drop, ap, ◌∙◌, arith}
 use Rattle.onetime.specs.Blocks.{hash_at, joined_to}
 use Rattle.onetime.specs.Chains.{walk}
 use Rattle.onetime.proofs.Runs.{hash_at_length, run_none, run_more}

@@ -1,4 +1,4 @@
-use Rattle.std.proofs.Common.{◌≡◌, ℕ, suc, ◌+◌, ◌-◌, ◌≤◌, List, sym, refl, ap, ◌∙◌, arith}
+use Rattle.std.proofs.Common.{◌≡◌, ℕ, ◌+◌, ◌-◌, ap, ◌∙◌, arith}
 use Rattle.onetime.specs.Chains.{walk}
 use Rattle.onetime.proofs.Steps.{walk_none, walk_more}
 use Rattle.onetime.proofs.chains.walk.Goals as goal

@@ -1,4 +1,4 @@
-use Rattle.std.proofs.Common.{◌≡◌, ℕ, ◌+◌, ◌-◌, ◌*◌, ◌<◌, List, ◌++◌, get_or, drop, ap, ◌∙◌, arith}
+use Rattle.std.proofs.Common.{◌≡◌, ℕ, ◌-◌, ◌*◌, ◌<◌, List, ◌++◌, get_or, drop, ap, ◌∙◌, arith}
 use Rattle.onetime.specs.Blocks.{joined_to}
 use Rattle.onetime.specs.Chains.{chain_at, walk}
 use Rattle.onetime.specs.Hashes.{chain_start}

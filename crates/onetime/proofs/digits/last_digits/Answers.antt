@@ -1,5 +1,5 @@
-use Rattle.std.proofs.Common.{◌≡◌, ℕ, List, [], ◌∷◌, ◌++◌, length, get_or, refl, ap, ◌∙◌, arith}
-use Rattle.onetime.specs.Digits.{digit_sum, digits_of, last_digits, nibbles}
+use Rattle.std.proofs.Common.{ℕ, List, [], ◌∷◌, get_or, refl, ap, ◌∙◌}
+use Rattle.onetime.specs.Digits.{digits_of}
 use Rattle.onetime.proofs.Nibbles.{end_digits}
 use Rattle.onetime.proofs.digits.last_digits.Goals as goal
 

@@ -1,4 +1,4 @@
-use Rattle.std.proofs.Common.{◌≡◌, ℕ, List, length, replicate, refl, ap, ◌∙◌}
+use Rattle.std.proofs.Common.{ℕ, List, replicate, refl, ap, ◌∙◌}
 use Rattle.hash.specs.Sha256.{sha_256}
 use lib.Seq.{paste}
 use Rattle.onetime.proofs.Runs.{two_hashes}

@@ -1,7 +1,6 @@
 use Rattle.std.proofs.Common.{◌≡◌, ℕ, ◌+◌, ◌/◌, List, sym, ap, ◌∙◌}
 use Rattle.onetime.specs.Blocks.{hash_at}
-use Rattle.onetime.specs.Hashes.{node}
-use Rattle.onetime.specs.Trees.{above, climb, parent}
+use Rattle.onetime.specs.Trees.{climb, parent}
 use Rattle.onetime.proofs.Siblings.{above_none, above_more, climb_none, climb_more, parent_even, parent_odd}
 use Rattle.onetime.proofs.paths.climb.Goals as goal
 use Rattle.onetime.proofs.paths.climb.Goals.{then-index-eq0, else-index-eq0}

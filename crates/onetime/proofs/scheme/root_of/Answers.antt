@@ -1,4 +1,4 @@
-use Rattle.std.proofs.Common.{◌≡◌, ℕ, eqb, List, length, Some, None, sym, ap, ◌∙◌}
+use Rattle.std.proofs.Common.{eqb, length, Some, None, sym, ap, ◌∙◌}
 use Rattle.std.proofs.lemmas.Bool.{cond-true, cond-false, eq-eqb, ne_eqb}
 use Rattle.onetime.specs.Trees.{root}
 use Rattle.onetime.proofs.Levels.{root_stands}

@@ -1,4 +1,4 @@
-use Rattle.std.proofs.Common.{◌≡◌, ℕ, List, ◌++◌, get_or, take, drop, ap, ◌∙◌}
+use Rattle.std.proofs.Common.{ℕ, List, ◌++◌, get_or, take, drop, ap, ◌∙◌}
 use Rattle.std.proofs.lemmas.List.{drop_at, take_at}
 use Rattle.onetime.specs.Blocks.{joined_to}
 use Rattle.onetime.specs.Chains.{chain_at}

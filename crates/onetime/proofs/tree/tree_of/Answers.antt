@@ -1,4 +1,4 @@
-use Rattle.std.proofs.Common.{◌≡◌, ℕ, zero, ◌+◌, ◌-◌, ◌/◌, ◌^◌, ◌<◌, ◌≤◌, length, refl, ◌∙◌, arith, rules}
+use Rattle.std.proofs.Common.{◌≡◌, ◌+◌, ◌-◌, ◌/◌, ◌^◌, ◌<◌, refl, arith}
 use Rattle.onetime.proofs.Levels.{halves, leaves_stand, level_up, wider}
 use Rattle.onetime.proofs.tree.tree_of.Goals as goal
 

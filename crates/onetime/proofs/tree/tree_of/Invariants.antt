@@ -1,4 +1,4 @@
-use Rattle.std.proofs.Common.{◌≡◌, ℕ, ◌+◌, ◌-◌, ◌^◌, ◌<◌, ◌≤◌, [], length, get_or}
+use Rattle.std.proofs.Common.{◌≡◌, ℕ, ◌+◌, ◌-◌, ◌^◌, ◌<◌, [], length, get_or}
 use Rattle.onetime.specs.Chains.{leaf_of}
 use Rattle.onetime.proofs.Levels.{Levels}
 use Rattle.onetime.proofs.tree.tree_of.Given as goal

@@ -1,4 +1,4 @@
-use Rattle.std.proofs.Common.{◌≡◌, ℕ, ◌+◌, ◌*◌, ◌<◌, List, [], ◌++◌, length, get_or, take, drop}
+use Rattle.std.proofs.Common.{◌≡◌, ◌+◌, ◌*◌, ◌<◌, [], ◌++◌, length, get_or, take, drop}
 use Rattle.onetime.specs.Blocks.{joined_to}
 use Rattle.onetime.specs.Trees.{above, beside}
 use Rattle.onetime.proofs.tree.write_path.Given as goal

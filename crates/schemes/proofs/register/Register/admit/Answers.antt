@@ -1,4 +1,4 @@
-use Rattle.std.proofs.Common.{◌≡◌, ℕ, ◌<◌, cond, eqb, [], length, get_or, replicate, None, sym, ap, ◌∙◌, arith, rules}
+use Rattle.std.proofs.Common.{◌≡◌, ℕ, ◌<◌, cond, eqb, length, replicate, None, ap, ◌∙◌, arith, rules}
 use Rattle.schemes.specs.Registers.{entry_of}
 use Rattle.schemes.proofs.Ladders.{accepted, was_fresh}
 use Rattle.schemes.proofs.Places.{get_or-same, get_or-set_row}
