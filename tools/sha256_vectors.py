@@ -10,6 +10,6 @@ rows = [f'    "{hashlib.sha256(pattern[:n]).hexdigest()}",\n' for n in range(131
 out.write_text(
     "// Digests of the messages of 0 to 130 bytes whose byte i is (7 i + 3) mod 256, by Python's hashlib:\n"
     "// tools/sha256_vectors.py writes this file.\n"
-    "pub(crate) const LONGEST: usize = 130;\n"
+    "pub(crate) const LONGEST: usize = 130;\n\n"
     "pub(crate) const DIGESTS: [&str; 131] = [\n" + "".join(rows) + "];\n"
 )
