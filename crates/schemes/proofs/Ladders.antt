@@ -1,9 +1,8 @@
-use Rattle.std.proofs.Common.{◌≡◌, ℕ, ◌≤◌, Bool, true, false, cond, not, List, [], ◌∷◌, ◌++◌, is_some, is_err, Some, None, Ok, Err, Option, Result, sym, refl, ap, ◌∙◌}
+use Rattle.std.proofs.Common.{◌≡◌, ℕ, ◌≤◌, Bool, true, false, cond, List, [], ◌∷◌, ◌++◌, is_some, is_err, Some, None, Ok, Err, Option, Result, sym, refl, ap, ◌∙◌}
 use Rattle.std.proofs.lemmas.Bool.{ltb-false, false≢true}
-use Rattle.turns.specs.Refusals.{Rung, rung, first_found, answer}
-use Rattle.turns.specs.declared.refusal.Reason.TheVariants as R
+use Rattle.turns.specs.Refusals.{Rung, first_found, answer}
 use Rattle.turns.specs.declared.refusal.Refusal.{Refusal}
-use Rattle.schemes.specs.Calls.{After, early_ladder, early_refusal, enrol_ladder, enrol_refusal, fits_key, refuse_key, sign_ladder, sign_refusal}
+use Rattle.schemes.specs.Calls.{After, early_ladder, early_refusal, enrol_ladder, enrol_refusal, fits_key, late_ladder, late_refusal, sign_ladder, sign_refusal}
 use Rattle.schemes.specs.Meaning.{Keeps, Meaning}
 
 -- no rung of a ladder applies
@@ -24,11 +23,21 @@ pub accepted : {A : Type 0} (o : Option Refusal) (a b : A) → Ok b ≡ answer o
 accepted None a b e = refl
 accepted (Some r) a b e = cc
 
+-- and a refused one found its own
+pub refused : {A : Type 0} (o : Option Refusal) (a : A) (e : Refusal) → Err e ≡ answer o a → o ≡ Some e
+refused None a e h = cc
+refused (Some r) a e h = cc
+
 -- an accepted signing was lent a buffer that holds the signature
 pub roomy : (siglen seclen : ℕ) (fits : List ℕ → List ℕ → Bool) (m : Meaning) (key turn : ℕ) (digest secret : List ℕ) (room : ℕ) → sign_refusal siglen seclen fits m key turn digest secret room ≡ None → siglen ≤ room
 unfolding sign_refusal
 roomy siglen seclen fits m key turn digest secret room e =
     ltb-false room siglen (all_passed (sign_ladder siglen seclen fits m key turn digest secret room) e).1.0
+
+-- and is of a turn that was not spent
+pub unspent : (siglen seclen : ℕ) (fits : List ℕ → List ℕ → Bool) (m : Meaning) (key turn : ℕ) (digest secret : List ℕ) (room : ℕ) → sign_refusal siglen seclen fits m key turn digest secret room ≡ None → m.spent key turn ≡ false
+unfolding sign_refusal
+unspent siglen seclen fits m key turn digest secret room e = (all_passed (sign_ladder siglen seclen fits m key turn digest secret room) e).1.1.1.1.0
 
 -- a refused call leaves the meaning as it was
 pub unchanged : {A : Type 0} (r : Result A Refusal) (Left : Type 0) (m m' : Meaning) → After r Left m m' → is_err r ≡ true → m' ≡ m
@@ -57,34 +66,18 @@ was_fresh publen known key public e = (all_passed (enrol_ladder publen known key
 
 -- what a signing is refused for, by how far it comes
 module _ (siglen seclen : ℕ) (fits : List ℕ → List ℕ → Bool) (m : Meaning) (key turn : ℕ) (digest secret : List ℕ) (room : ℕ) where
-  early : List Rung
-  early = early_ladder siglen seclen (m.public key) key turn digest secret room
-
-  late : Option (List ℕ) → List Rung
-  late known = rung (not (fits_key fits secret known)) (refuse_key R.Secret key) ∷ (rung (m.spent key turn) (refuse_key R.TurnSpent key) ∷ [])
+  late : List Rung
+  late = late_ladder key (fits_key fits secret (m.public key)) (m.spent key turn)
 
   pub sign_early : (e : Refusal) → early_refusal siglen seclen (m.public key) key turn digest secret room ≡ Some e → sign_refusal siglen seclen fits m key turn digest secret room ≡ Some e
-  unfolding sign_refusal early late
-  sign_early e h = found_early early (late (m.public key)) e h
+  unfolding sign_refusal late
+  sign_early e h = found_early (early_ladder siglen seclen (m.public key) key turn digest secret room) late e h
 
-  module _ (public : List ℕ) (passed : early_refusal siglen seclen (m.public key) key turn digest secret room ≡ None) (known : m.public key ≡ Some public) where
-    by_late : sign_refusal siglen seclen fits m key turn digest secret room ≡ first_found (late (Some public))
-    unfolding sign_refusal early late
-    by_late = passed_early early (late (m.public key)) passed ∙ ap (λ (x : Option (List ℕ)). first_found (late x)) known
-
-    pub sign_secret : fits secret public ≡ false → sign_refusal siglen seclen fits m key turn digest secret room ≡ Some (refuse_key R.Secret key)
-    unfolding late
-    sign_secret wrong = by_late ∙ ap (λ (b : Bool). cond (not b) (Some (refuse_key R.Secret key)) (cond (m.spent key turn) (Some (refuse_key R.TurnSpent key)) None)) wrong
-
-    by_turn : fits secret public ≡ true → sign_refusal siglen seclen fits m key turn digest secret room ≡ cond (m.spent key turn) (Some (refuse_key R.TurnSpent key)) None
-    unfolding late
-    by_turn right = by_late ∙ ap (λ (b : Bool). cond (not b) (Some (refuse_key R.Secret key)) (cond (m.spent key turn) (Some (refuse_key R.TurnSpent key)) None)) right
-
-    pub sign_spent : fits secret public ≡ true → m.spent key turn ≡ true → sign_refusal siglen seclen fits m key turn digest secret room ≡ Some (refuse_key R.TurnSpent key)
-    sign_spent right spent = by_turn right ∙ ap (λ (b : Bool). cond b (Some (refuse_key R.TurnSpent key)) None) spent
-
-    pub sign_none : fits secret public ≡ true → m.spent key turn ≡ false → sign_refusal siglen seclen fits m key turn digest secret room ≡ None
-    sign_none right unspent = by_turn right ∙ ap (λ (b : Bool). cond b (Some (refuse_key R.TurnSpent key)) None) unspent
+  pub sign_late : (public : List ℕ) → early_refusal siglen seclen (m.public key) key turn digest secret room ≡ None → m.public key ≡ Some public → sign_refusal siglen seclen fits m key turn digest secret room ≡ late_refusal key (fits secret public) (m.spent key turn)
+  unfolding sign_refusal late
+  sign_late public passed known =
+      passed_early (early_ladder siglen seclen (m.public key) key turn digest secret room) late passed
+      ∙ ap (λ (x : Option (List ℕ)). late_refusal key (fits_key fits secret x) (m.spent key turn)) known
 
 -- a call's answer, by what is found
 pub says_err : (o : Option Refusal) (e : Refusal) → o ≡ Some e → ◌≡◌ {A = Result Unit Refusal} (Err e) (answer o tt)

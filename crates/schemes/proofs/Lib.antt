@@ -1,3 +1,3 @@
 pub mod Ladders
 pub mod Places
-pub mod Registers
+pub mod Kept

@@ -46,14 +46,22 @@ early_ladder siglen seclen known key turn digest secret room =
 abbrev pub early_refusal : ℕ → ℕ → Option (List ℕ) → ℕ → ℕ → List ℕ → List ℕ → ℕ → Option Refusal
 early_refusal siglen seclen known key turn digest secret room = first_found (early_ladder siglen seclen known key turn digest secret room)
 
--- why a signing is refused at all: the secret, and last the turn, if it is spent
+-- what is asked last: whether the secret fits, and then whether the turn is spent
+abbrev pub late_ladder : ℕ → Bool → Bool → List Rung
+late_ladder key fitting is_spent =
+    rung (not fitting) (refuse_key R.Secret key)
+    ∷ (rung is_spent (refuse_key R.TurnSpent key)
+    ∷ [])
+
+abbrev pub late_refusal : ℕ → Bool → Bool → Option Refusal
+late_refusal key fitting is_spent = first_found (late_ladder key fitting is_spent)
+
+-- why a signing is refused at all
 module _ (siglen seclen : ℕ) (fits : List ℕ → List ℕ → Bool) (m : Meaning) (key turn : ℕ) (digest secret : List ℕ) (room : ℕ) where
   abbrev pub sign_ladder : List Rung
   sign_ladder =
       early_ladder siglen seclen (m.public key) key turn digest secret room
-      ++ (rung (not (fits_key fits secret (m.public key))) (refuse_key R.Secret key)
-      ∷ (rung (m.spent key turn) (refuse_key R.TurnSpent key)
-      ∷ []))
+      ++ late_ladder key (fits_key fits secret (m.public key)) (m.spent key turn)
 
   unfoldable pub sign_refusal : Option Refusal
   sign_refusal = first_found sign_ladder

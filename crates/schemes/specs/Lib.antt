@@ -1,4 +1,5 @@
 pub mod Calls
-pub mod Keys
 pub mod Meaning
+pub mod Pages
+pub mod Places
 pub mod Registers

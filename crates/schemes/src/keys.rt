@@ -1,13 +1,10 @@
-ghost use Rattle.std.specs.Prelude.{◌≡◌, ℕ, ◌<◌, length, if◌then◌else◌, Some, None, nat_eq};
-ghost use Rattle.schemes.specs.Calls.{enrol_refusal, refuse_key};
-ghost use Rattle.schemes.specs.Keys.{Enrolled, Signer, Sized, public_of};
+ghost use Rattle.std.specs.Prelude.{◌≡◌};
+ghost use Rattle.std.specs.Str.{bytes_eq};
+ghost use Rattle.schemes.specs.Calls.{late_refusal, refuse_key};
 ghost use Rattle.turns.specs.Refusals.{answer};
 
+use crate::place::{KEYS, Place};
 use turns::{Layer, NONE, Reason, Refusal};
-
-pub const KEYS: usize = 16;
-
-pub const TURNS: usize = 32;
 
 pub const PUBLIC_LEN: usize = 32;
 
@@ -29,88 +26,28 @@ pub fn refusal(reason: Reason, key: u8) -> Refusal
     }
 }
 
-// Public keys of 32 bytes, for up to 16 keys.
-#[derive(Drop)]
-pub struct PublicKeys {
-    keys: [Option<[u8; PUBLIC_LEN]>; KEYS],
+// A signing against which nothing but its secret or a spent turn can speak: its place, digest and secret, and the
+// public key of its key.
+#[derive(Clone, Copy)]
+pub struct Ready<'a> {
+    pub key: u8,
+    pub place: Place,
+    pub digest: &'a [u8; DIGEST_LEN],
+    pub secret: &'a [u8; SECRET_LEN],
+    pub public: [u8; PUBLIC_LEN],
 }
 
-impl PublicKeys {
-    pub fn new() -> PublicKeys
-        ensures { (key : ℕ) → public_of result key ≡ None }
+impl Ready<'_> {
+    // What is asked last: whether the secret leads to the public key, and whether the turn is spent.
+    pub fn clear(&self, root: &[u8; PUBLIC_LEN], is_spent: bool) -> Result<(), Refusal>
+        ensures { result ≡ answer (late_refusal self.now.key (bytes_eq root.now self.now.public) is_spent) tt }
     {
-        PublicKeys { keys: [None; KEYS] }
-    }
-
-    pub fn get(&self, key: u8) -> Option<[u8; PUBLIC_LEN]>
-        ensures { result ≡ public_of self.now key }
-    {
-        if key as usize >= KEYS {
-            return None;
+        if *root != self.public {
+            return Err(refusal(Reason::Secret, self.key));
         }
-        self.keys[key as usize]
-    }
-
-    // Why a key is not enrolled.
-    fn enrol_refusal(&self, key: u8, public: &[u8]) -> Option<Refusal>
-        ensures found { result ≡ enrol_refusal 32 (public_of self.now key) key public.now }
-        ensures sized { Sized result key public.now }
-    {
-        if key as usize >= KEYS || public.len() != PUBLIC_LEN {
-            return Some(refusal(Reason::Argument, key));
+        if is_spent {
+            return Err(refusal(Reason::TurnSpent, self.key));
         }
-        if self.keys[key as usize].is_some() {
-            return Some(refusal(Reason::AlreadyEnrolled, key));
-        }
-        None
-    }
-
-    fn set(&mut self, key: u8, public: &[u8])
-        requires { (key < 16) × (length public.now ≡ 32) }
-        ensures { (k : ℕ) → public_of self.new k ≡ (if nat_eq k key then Some public.now else public_of self.old k) }
-    {
-        let mut bytes = [0; PUBLIC_LEN];
-        bytes.copy_from_slice(public);
-        self.keys[key as usize] = Some(bytes);
-    }
-
-    // Gives a key its public key.
-    pub fn enrol(&mut self, key: u8, public: &[u8]) -> Result<(), Refusal>
-        ensures answer { result ≡ answer (enrol_refusal 32 (public_of self.old key) key public.now) tt }
-        ensures after { Enrolled result self.old key public.now self.new }
-    {
-        if let Some(refusal) = self.enrol_refusal(key, public) {
-            return Err(refusal);
-        }
-        self.set(key, public);
         Ok(())
-    }
-
-    // The public key of a key that is to sign, if nothing but its secret or a spent turn can be wrong.
-    pub fn signer(
-        &self,
-        key: u8,
-        turn: u8,
-        digest: &[u8],
-        secret: &[u8],
-        signature_len: usize,
-        room: usize,
-    ) -> Result<[u8; PUBLIC_LEN], Refusal>
-        ensures { Signer signature_len (public_of self.now key) key turn digest.now secret.now room result }
-    {
-        if key as usize >= KEYS
-            || turn as usize >= TURNS
-            || digest.len() != DIGEST_LEN
-            || secret.len() != SECRET_LEN
-        {
-            return Err(refusal(Reason::Argument, key));
-        }
-        if room < signature_len {
-            return Err(refusal(Reason::Memory, key));
-        }
-        match self.keys[key as usize] {
-            Some(public) => Ok(public),
-            None => Err(refusal(Reason::NotEnrolled, key)),
-        }
     }
 }

@@ -2,11 +2,15 @@
 #![tactic(auto)]
 
 mod keys;
+mod pages;
+mod place;
 mod register;
 mod scheme;
 mod signing;
 
-pub use keys::{DIGEST_LEN, KEYS, PUBLIC_LEN, PublicKeys, SECRET_LEN, TURNS, refusal};
+pub use keys::{DIGEST_LEN, PUBLIC_LEN, Ready, SECRET_LEN, refusal};
+pub use pages::Pages;
+pub use place::{KEYS, Message, Place, TURNS};
 pub use register::Register;
 pub use scheme::Scheme;
 pub use signing::{enrol_and_ask, sign_and_check, sign_between_checks};

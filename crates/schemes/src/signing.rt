@@ -3,12 +3,13 @@ ghost use Rattle.schemes.specs.Calls.{After, Buffer, NewKey, Spends, enrol_refus
 ghost use Rattle.schemes.specs.Meaning.{Keeps};
 ghost use Rattle.turns.specs.Refusals.{answer};
 
+use crate::place::Message;
 use crate::scheme::Scheme;
 use turns::Refusal;
 
 // Enrols a key, and asks for it: where the enrolment is accepted the answer is yes, at every scheme.
 pub fn enrol_and_ask<S: Scheme>(scheme: &mut S, key: u8, public: &[u8]) -> Result<bool, Refusal>
-    ensures answer { result ≡ answer (enrol_refusal S.Scheme.publen ((S.Scheme.means scheme.old).public key) key public.now) true }
+    ensures answer { result ≡ answer (enrol_refusal S.Scheme.P ((S.Scheme.means scheme.old).public key) key public.now) true }
     ensures after { After result (NewKey key public.now (S.Scheme.means scheme.new)) (S.Scheme.means scheme.old) (S.Scheme.means scheme.new) }
     ensures kept { Keeps key (S.Scheme.means scheme.old) (S.Scheme.means scheme.new) }
 {
@@ -19,49 +20,42 @@ pub fn enrol_and_ask<S: Scheme>(scheme: &mut S, key: u8, public: &[u8]) -> Resul
 // Signs, and checks the signature: where the signing is accepted the check says yes, at every scheme.
 pub fn sign_and_check<S: Scheme>(
     scheme: &mut S,
-    key: u8,
-    turn: u8,
-    digest: &[u8],
+    message: &Message<'_>,
     secret: &[u8],
     signature: &mut [u8],
 ) -> Result<bool, Refusal>
-    ensures answer { result ≡ answer (sign_refusal S.Scheme.siglen S.Scheme.seclen S.Scheme.fits (S.Scheme.means scheme.old) key turn digest.now secret.now (length signature.old)) true }
-    ensures after { After result (Spends key turn digest.now (take S.Scheme.siglen signature.new) (S.Scheme.means scheme.old) (S.Scheme.means scheme.new)) (S.Scheme.means scheme.old) (S.Scheme.means scheme.new) }
-    ensures kept { Keeps key (S.Scheme.means scheme.old) (S.Scheme.means scheme.new) }
-    ensures buffer { Buffer S.Scheme.siglen result signature.old signature.new }
+    ensures answer { result ≡ answer (sign_refusal S.Scheme.L S.Scheme.Q S.Scheme.fits (S.Scheme.means scheme.old) message.now.key message.now.turn message.now.digest.now secret.now (length signature.old)) true }
+    ensures after { After result (Spends message.now.key message.now.turn message.now.digest.now (take S.Scheme.L signature.new) (S.Scheme.means scheme.old) (S.Scheme.means scheme.new)) (S.Scheme.means scheme.old) (S.Scheme.means scheme.new) }
+    ensures kept { Keeps message.now.key (S.Scheme.means scheme.old) (S.Scheme.means scheme.new) }
+    ensures buffer { Buffer S.Scheme.L result signature.old signature.new }
 {
-    scheme.sign(key, turn, digest, secret, signature)?;
-    let len = S::signature_len();
-    Ok(scheme.check(key, turn, digest, &signature[0..len]))
+    scheme.sign(message, secret, signature)?;
+    Ok(scheme.check(message, &signature[0..S::L]))
 }
 
 // Checks one signature before and after another is made. What was accepted stays so, and nothing else comes to be
 // accepted where the other key is another one, or the signing was refused.
 pub fn sign_between_checks<S: Scheme>(
     scheme: &mut S,
-    key: u8,
-    turn: u8,
-    digest: &[u8],
+    message: &Message<'_>,
     signature: &[u8],
-    other: u8,
-    at: u8,
-    message: &[u8],
+    other: &Message<'_>,
     secret: &[u8],
     buffer: &mut [u8],
 ) -> (bool, Result<(), Refusal>, bool)
-    ensures answer { result.1 ≡ answer (sign_refusal S.Scheme.siglen S.Scheme.seclen S.Scheme.fits (S.Scheme.means scheme.old) other at message.now secret.now (length buffer.old)) tt }
-    ensures before { result.0 ≡ (S.Scheme.means scheme.old).accepts key turn digest.now signature.now }
-    ensures after { result.2 ≡ (S.Scheme.means scheme.new).accepts key turn digest.now signature.now }
-    ensures left { After result.1 (Spends other at message.now (take S.Scheme.siglen buffer.new) (S.Scheme.means scheme.old) (S.Scheme.means scheme.new)) (S.Scheme.means scheme.old) (S.Scheme.means scheme.new) }
-    ensures kept { Keeps other (S.Scheme.means scheme.old) (S.Scheme.means scheme.new) }
-    ensures buffer { Buffer S.Scheme.siglen result.1 buffer.old buffer.new }
+    ensures answer { result.1 ≡ answer (sign_refusal S.Scheme.L S.Scheme.Q S.Scheme.fits (S.Scheme.means scheme.old) other.now.key other.now.turn other.now.digest.now secret.now (length buffer.old)) tt }
+    ensures before { result.0 ≡ (S.Scheme.means scheme.old).accepts message.now.key message.now.turn message.now.digest.now signature.now }
+    ensures after { result.2 ≡ (S.Scheme.means scheme.new).accepts message.now.key message.now.turn message.now.digest.now signature.now }
+    ensures left { After result.1 (Spends other.now.key other.now.turn other.now.digest.now (take S.Scheme.L buffer.new) (S.Scheme.means scheme.old) (S.Scheme.means scheme.new)) (S.Scheme.means scheme.old) (S.Scheme.means scheme.new) }
+    ensures kept { Keeps other.now.key (S.Scheme.means scheme.old) (S.Scheme.means scheme.new) }
+    ensures buffer { Buffer S.Scheme.L result.1 buffer.old buffer.new }
     ensures stays { result.0 ≡ true → result.2 ≡ true }
-    ensures apart { (key ≢ other) → result.2 ≡ result.0 }
+    ensures apart { (message.now.key ≢ other.now.key) → result.2 ≡ result.0 }
     ensures refused { elim result.1 [ Ok u ↦ Unit {0} | Err e ↦ result.2 ≡ result.0 ] }
-    ensures known { ((result.0 ≡ true → key ≤ 15)) × ((result.0 ≡ true → turn ≤ 31)) }
+    ensures known { ((result.0 ≡ true → message.now.key ≤ 15)) × ((result.0 ≡ true → message.now.turn ≤ 31)) }
 {
-    let before = scheme.check(key, turn, digest, signature);
-    let signed = scheme.sign(other, at, message, secret, buffer);
-    let after = scheme.check(key, turn, digest, signature);
+    let before = scheme.check(message, signature);
+    let signed = scheme.sign(other, secret, buffer);
+    let after = scheme.check(message, signature);
     (before, signed, after)
 }

@@ -1,0 +1,103 @@
+ghost use Rattle.std.specs.Prelude.{◌≡◌, ℕ, None, ◌==◌, ◌&&◌, if◌then◌else◌};
+ghost use Rattle.schemes.specs.Calls.{enrol_refusal};
+ghost use Rattle.schemes.specs.Pages.{Enrolled, Signer, at, public_of};
+ghost use Rattle.turns.specs.Refusals.{answer};
+
+use crate::keys::{DIGEST_LEN, PUBLIC_LEN, Ready, SECRET_LEN, refusal};
+use crate::place::{KEYS, Message, Place, TURNS};
+use turns::{Reason, Refusal};
+
+// What a scheme keeps: for each of its keys the public key, of 32 bytes, and something for each turn.
+#[derive(Drop)]
+pub struct Pages<T: Copy> {
+    publics: [Option<[u8; PUBLIC_LEN]>; KEYS],
+    turns: [[T; TURNS]; KEYS],
+}
+
+impl<T: Copy> Pages<T> {
+    // No key has a public key.
+    pub fn new(blank: T) -> Pages<T>
+        ensures publics { (key : ℕ) → public_of result key ≡ None }
+        ensures turns { (key turn : ℕ) → at blank result key turn ≡ blank }
+    {
+        Pages {
+            publics: [None; KEYS],
+            turns: [[blank; TURNS]; KEYS],
+        }
+    }
+
+    // The public key of a key.
+    pub fn get(&self, key: u8) -> Option<[u8; PUBLIC_LEN]>
+        ensures { result ≡ public_of self.now key }
+    {
+        self.publics.get(usize::from(key)).copied().flatten()
+    }
+
+    // What stands for a turn of a key.
+    pub fn at(&self, place: Place) -> T
+        ensures { (d : T) → result ≡ at d self.now place.key place.turn }
+    {
+        let page = &self.turns[usize::from(place.key)];
+        page[usize::from(place.turn)]
+    }
+
+    // Gives a key its public key, and a page of blanks.
+    #[tactic(auto, unfolding(crate::specs::Calls::enrol_refusal))]
+    pub fn enrol(&mut self, key: u8, public: &[u8], blank: T) -> Result<(), Refusal>
+        ensures answer { result ≡ answer (enrol_refusal 32 (public_of self.old key) key public.now) tt }
+        ensures after { Enrolled blank key public.now result self.old self.new }
+    {
+        let Ok(public) = <[u8; PUBLIC_LEN]>::try_from(public) else {
+            return Err(refusal(Reason::Argument, key));
+        };
+        let Some(known) = self.publics.get(usize::from(key)) else {
+            return Err(refusal(Reason::Argument, key));
+        };
+        if known.is_some() {
+            return Err(refusal(Reason::AlreadyEnrolled, key));
+        }
+        self.publics[usize::from(key)] = Some(public);
+        self.turns[usize::from(key)] = [blank; TURNS];
+        Ok(())
+    }
+
+    // Puts something for a turn of a key.
+    pub fn put(&mut self, place: Place, entry: T)
+        ensures publics { (k : ℕ) → public_of self.new k ≡ public_of self.old k }
+        ensures turns { (d : T) (k t : ℕ) → at d self.new k t ≡ (if k == place.key && t == place.turn then entry else at d self.old k t) }
+    {
+        self.turns[usize::from(place.key)][usize::from(place.turn)] = entry;
+    }
+
+    // A signing that nothing but its secret or a spent turn can speak against.
+    pub fn signer<'a>(
+        &self,
+        message: &Message<'a>,
+        secret: &'a [u8],
+        signature_len: usize,
+        room: usize,
+    ) -> Result<Ready<'a>, Refusal>
+        ensures { Signer signature_len (public_of self.now message.now.key) message.now.key message.now.turn message.now.digest.now secret.now room result }
+    {
+        let (Some(place), Ok(digest), Ok(secret)) = (
+            message.place(),
+            <&[u8; DIGEST_LEN]>::try_from(message.digest),
+            <&[u8; SECRET_LEN]>::try_from(secret),
+        ) else {
+            return Err(refusal(Reason::Argument, message.key));
+        };
+        if room < signature_len {
+            return Err(refusal(Reason::Memory, message.key));
+        }
+        let Some(public) = self.get(message.key) else {
+            return Err(refusal(Reason::NotEnrolled, message.key));
+        };
+        Ok(Ready {
+            key: message.key,
+            place,
+            digest,
+            secret,
+            public,
+        })
+    }
+}
