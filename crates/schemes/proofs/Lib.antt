@@ -1,3 +1,4 @@
 pub mod Ladders
 pub mod Places
 pub mod Kept
+pub mod Entries

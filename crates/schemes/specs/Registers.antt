@@ -40,8 +40,12 @@ register_means r =
       accepts = register_accepts r;
     }
 
--- what is answered of a signing: nothing speaks against it, or the refusal
+-- nothing speaks against a signing, and this is what it is about
+pub record MayEnter (r : Register) (key turn : ℕ) (digest secret : List ℕ) (room : ℕ) (signing : Ready) : Type 0 where
+  pub ready : IsReady 0 (public_of r.pages key) key turn digest secret room signing
+  pub unrefused : sign_refusal 0 32 fits_register (register_means r) key turn digest secret room ≡ None
+  pub unspent : is_some (entry_of r key turn) ≡ false
+
 abbrev pub Cleared : Register → ℕ → ℕ → List ℕ → List ℕ → ℕ → Result Ready Refusal → Type 0
-Cleared r key turn digest secret room (Ok ready) =
-    IsReady 0 (public_of r.pages key) key turn digest secret room ready × (sign_refusal 0 32 fits_register (register_means r) key turn digest secret room ≡ None)
+Cleared r key turn digest secret room (Ok ready) = MayEnter r key turn digest secret room ready
 Cleared r key turn digest secret room (Err e) = sign_refusal 0 32 fits_register (register_means r) key turn digest secret room ≡ Some e

@@ -1,4 +1,4 @@
-ghost use Rattle.std.specs.Prelude.{◌≡◌, ℕ, None, ◌==◌, ◌&&◌, if◌then◌else◌};
+ghost use Rattle.std.specs.Prelude.{◌≡◌, ℕ, ◌<◌, Some, None, ◌==◌, ◌&&◌, if◌then◌else◌};
 ghost use Rattle.schemes.specs.Calls.{enrol_refusal};
 ghost use Rattle.schemes.specs.Pages.{Enrolled, Signer, at, public_of};
 ghost use Rattle.turns.specs.Refusals.{answer};
@@ -56,9 +56,17 @@ impl<T: Copy> Pages<T> {
         if known.is_some() {
             return Err(refusal(Reason::AlreadyEnrolled, key));
         }
+        self.begin_page(key, public, blank);
+        Ok(())
+    }
+
+    fn begin_page(&mut self, key: u8, public: [u8; PUBLIC_LEN], blank: T)
+        requires { key < 16 }
+        ensures publics { (k : ℕ) → public_of self.new k ≡ (if k == key then Some public else public_of self.old k) }
+        ensures turns { (k t : ℕ) → at blank self.new k t ≡ (if k == key then blank else at blank self.old k t) }
+    {
         self.publics[usize::from(key)] = Some(public);
         self.turns[usize::from(key)] = [blank; TURNS];
-        Ok(())
     }
 
     // Puts something for a turn of a key.

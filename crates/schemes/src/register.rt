@@ -9,6 +9,8 @@ use crate::place::Message;
 use crate::scheme::Scheme;
 use turns::Refusal;
 
+const SIGNATURE_LEN: usize = 0;
+
 // The register scheme: to sign is to enter a digest, and signatures are empty.
 #[derive(Drop)]
 pub struct Register {
@@ -52,7 +54,7 @@ impl Register {
     ) -> Result<Ready<'a>, Refusal>
         ensures { Cleared self.now message.now.key message.now.turn message.now.digest.now secret.now room result }
     {
-        let ready = self.pages.signer(message, secret, Self::L, room)?;
+        let ready = self.pages.signer(message, secret, SIGNATURE_LEN, room)?;
         let is_spent = self.pages.at(ready.place).is_some();
         ready.clear(&commitment(ready.secret), is_spent)?;
         Ok(ready)
@@ -60,7 +62,7 @@ impl Register {
 }
 
 impl Scheme for Register {
-    const L: usize = 0;
+    const L: usize = SIGNATURE_LEN;
 
     const P: usize = PUBLIC_LEN;
 
@@ -88,6 +90,7 @@ impl Scheme for Register {
         self.pages.enrol(key, public, None)
     }
 
+    #[tactic(auto, using(crate::proofs::Entries::entry_keeps))]
     fn sign(
         &mut self,
         message: &Message<'_>,

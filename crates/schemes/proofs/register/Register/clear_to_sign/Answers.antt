@@ -3,7 +3,7 @@ use Rattle.std.specs.Str.{bytes_eq}
 use Rattle.std.proofs.lemmas.Result.{err_from_is_err_and}
 use Rattle.schemes.specs.Calls.{late_refusal}
 use Rattle.schemes.specs.Registers.{entry_of, fits_register, register_means}
-use Rattle.schemes.proofs.Ladders.{accepted, refused, sign_early, sign_late}
+use Rattle.schemes.proofs.Ladders.{accepted, refused, sign_early, sign_late, unspent}
 use Rattle.schemes.proofs.register.Register.clear_to_sign.Goals as goal
 
 pub returns-in_err-ready : goal.returns-in_err-ready
@@ -33,4 +33,9 @@ returns c =
     let fit : bytes_eq c.commitment.result c.in_ok-ready.ready.public ≡ fits_register c.args.secret.now c.in_ok-ready.ready.public = search rules in
     let spent : c.is_some-is_spent.result ≡ is_some (entry_of c.args.self.now message.key message.turn) = search rules in
     let found : late_refusal c.in_ok-ready.ready.key (bytes_eq c.commitment.result c.in_ok-ready.ready.public) c.is_some-is_spent.result ≡ None = accepted _ _ _ c.in_ok-clear.ensures in
-    (ready, late ∙ rw (sym fit, sym spent, sym ready.same_key) found)
+    let unrefused = late ∙ rw (sym fit, sym spent, sym ready.same_key) found in
+    record {
+      ready = ready;
+      unrefused = unrefused;
+      unspent = unspent 0 32 fits_register m message.key message.turn message.digest.now c.args.secret.now c.args.room unrefused;
+    }
