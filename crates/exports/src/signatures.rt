@@ -3,7 +3,7 @@ ghost use Rattle.exports.specs.Answers.{Holds, as_key, can_root, can_sign, roote
 ghost use Rattle.onetime.specs.Signatures.{accepted_by};
 
 use onetime::OneTime;
-use schemes::{PUBLIC_LEN, Scheme};
+use schemes::{Message, PUBLIC_LEN, Scheme};
 
 const KEY: u8 = 0;
 
@@ -28,10 +28,8 @@ fn with_key(public: &[u8]) -> Option<OneTime>
     ensures { MatchOption result ((length public.now == 32) ≡ false) (λ s. Holds public.now s) }
 {
     let mut scheme = OneTime::new();
-    match scheme.enrol(KEY, public) {
-        Ok(()) => Some(scheme),
-        Err(_) => None,
-    }
+    scheme.enrol(KEY, public).ok()?;
+    Some(scheme)
 }
 
 // Writes the signature of a digest at a turn into the first 2304 of the lent bytes, if the secret fits the public key.
@@ -49,7 +47,8 @@ pub extern "C" fn kofnasig_onetime_sign(
     let Some(mut scheme) = with_key(public) else {
         return false;
     };
-    scheme.sign(KEY, turn, digest, secret, signature).is_ok()
+    let message = Message { key: KEY, turn, digest };
+    scheme.sign(&message, secret, signature).is_ok()
 }
 
 // Whether a signature of a digest at a turn is accepted under a public key.
@@ -65,5 +64,6 @@ pub extern "C" fn kofnasig_onetime_check(
     let Some(scheme) = with_key(public) else {
         return false;
     };
-    scheme.check(KEY, turn, digest, signature)
+    let message = Message { key: KEY, turn, digest };
+    scheme.check(&message, signature)
 }

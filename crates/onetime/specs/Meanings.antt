@@ -1,8 +1,9 @@
 use Rattle.std.specs.Prelude.{◌≡◌, ℕ, ◌<◌, ◌≤◌, Bool, true, false, cond, List, [], length, take, Some, None, Ok, Err, Option, Result, ◌==◌, slice_index_or}
 use Rattle.std.specs.Str.{bytes_eq}
 use Rattle.schemes.specs.Calls.{sign_refusal}
-use Rattle.schemes.specs.Keys.{public_of}
 use Rattle.schemes.specs.Meaning.{Meaning}
+use Rattle.schemes.specs.Pages.{IsReady, at, public_of}
+use Rattle.schemes.specs.declared.keys.Ready.{Ready}
 use Rattle.turns.specs.declared.refusal.Refusal.{Refusal}
 use Rattle.onetime.specs.declared.scheme.OneTime.{OneTime}
 use Rattle.onetime.specs.Signatures.{accepted_by, signature}
@@ -19,9 +20,9 @@ public_key secret = cond (length secret == 32) (Some (root secret)) None
 abbrev pub onetime_means : OneTime → Meaning
 onetime_means o =
     record {
-      public = public_of o.publics;
-      spent = λ key turn. slice_index_or (slice_index_or o.spent key []) turn false;
-      accepts = λ key. accepted_by (public_of o.publics key);
+      public = public_of o.pages;
+      spent = at false o.pages;
+      accepts = λ key. accepted_by (public_of o.pages key);
     }
 
 -- an accepted signing writes the very signature
@@ -29,17 +30,13 @@ abbrev pub SignatureWritten : Result Unit Refusal → List ℕ → ℕ → List 
 SignatureWritten (Ok u) secret turn digest buffer = take 2304 buffer ≡ signature secret turn digest
 SignatureWritten (Err e) secret turn digest buffer = Unit {0}
 
--- nothing speaks against a signing, and these are the nodes of the secret's tree
-pub record MaySign (o : OneTime) (key turn : ℕ) (digest secret : List ℕ) (room : ℕ) (nodes : List (List ℕ)) : Type 0 where
+-- nothing speaks against a signing, this is what it is about, and these are the nodes of the secret's tree
+pub record MaySign (o : OneTime) (key turn : ℕ) (digest secret : List ℕ) (room : ℕ) (signing : Ready) (nodes : List (List ℕ)) : Type 0 where
+  pub ready : IsReady 2304 (public_of o.pages key) key turn digest secret room signing
   pub unrefused : sign_refusal 2304 32 fits_onetime (onetime_means o) key turn digest secret room ≡ None
-  pub key_low : key < 16
-  pub turn_low : turn < 32
-  pub digest_length : length digest ≡ 32
-  pub secret_length : length secret ≡ 32
-  pub room_enough : 2304 ≤ room
   pub grown : Grown secret nodes
   pub accepted : (s : List ℕ) → s ≡ signature secret turn digest → (onetime_means o).accepts key turn digest s ≡ true
 
-abbrev pub Cleared : OneTime → ℕ → ℕ → List ℕ → List ℕ → ℕ → Result (List (List ℕ)) Refusal → Type 0
-Cleared o key turn digest secret room (Ok nodes) = MaySign o key turn digest secret room nodes
+abbrev pub Cleared : OneTime → ℕ → ℕ → List ℕ → List ℕ → ℕ → Result (Ready × List (List ℕ)) Refusal → Type 0
+Cleared o key turn digest secret room (Ok (signing, nodes)) = MaySign o key turn digest secret room signing nodes
 Cleared o key turn digest secret room (Err e) = sign_refusal 2304 32 fits_onetime (onetime_means o) key turn digest secret room ≡ Some e

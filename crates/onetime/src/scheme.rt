@@ -12,32 +12,16 @@ use crate::digits::digits_of;
 use crate::parts::{CHAINS_LEN, HASH_LEN};
 use crate::paths::leads_to;
 use crate::tree::{LEVELS, NODES, ROOT, tree_of, write_path};
-use schemes::{DIGEST_LEN, KEYS, PUBLIC_LEN, PublicKeys, SECRET_LEN, Scheme, TURNS, refusal};
-use turns::{Reason, Refusal, same_bytes};
+use schemes::{DIGEST_LEN, Message, PUBLIC_LEN, Pages, Ready, SECRET_LEN, Scheme};
+use turns::Refusal;
 
 const SIGNATURE_LEN: usize = CHAINS_LEN + LEVELS as usize * HASH_LEN;
 
 // The one-time scheme: each turn of a key has a leaf of Winternitz chains, and the public key is the root over them.
+// Of each turn it keeps whether it is spent.
 #[derive(Drop)]
 pub struct OneTime {
-    publics: PublicKeys,
-    spent: [[bool; TURNS]; KEYS],
-}
-
-// Marks a turn as spent.
-fn mark(turns: &mut [bool; TURNS], turn: u8)
-    requires { turn < 32 }
-    ensures long { length turns.old ≡ 32 }
-    ensures after { turns.new ≡ slice_set turns.old turn true }
-{
-    turns[turn as usize] = true;
-}
-
-// No turn of any key is spent.
-fn unspent() -> [[bool; TURNS]; KEYS]
-    ensures { (key turn : ℕ) → slice_index_or (slice_index_or result key []) turn false ≡ false }
-{
-    [[false; TURNS]; KEYS]
+    pages: Pages<bool>,
 }
 
 // The root of a secret's tree, with what is proved of the scheme.
@@ -80,8 +64,7 @@ impl OneTime {
         ensures accepts { (key turn : ℕ) (digest s : List ℕ) → (onetime_means result).accepts key turn digest s ≡ false }
     {
         OneTime {
-            publics: PublicKeys::new(),
-            spent: unspent(),
+            pages: Pages::new(false),
         }
     }
 
@@ -95,49 +78,20 @@ impl OneTime {
         root_of(secret)
     }
 
-    // Gives a key its public key, and no spent turn.
-    fn admit(&mut self, key: u8, public: &[u8]) -> Result<(), Refusal>
-        ensures answer { result ≡ answer (enrol_refusal 32 ((onetime_means self.old).public key) key public.now) tt }
-        ensures after { After result (NewKey key public.now (onetime_means self.new)) (onetime_means self.old) (onetime_means self.new) }
-        ensures kept { Keeps key (onetime_means self.old) (onetime_means self.new) }
-    {
-        self.publics.enrol(key, public)?;
-        self.spent[key as usize] = [false; TURNS];
-        Ok(())
-    }
-
-    // The nodes of the secret's tree, if nothing speaks against a signing.
-    fn clear_to_sign(
+    // What a signing is about and the nodes of the secret's tree, if nothing speaks against it.
+    fn clear_to_sign<'d, 's>(
         &self,
-        key: u8,
-        turn: u8,
-        digest: &[u8],
-        secret: &[u8],
+        message: &Message<'d>,
+        secret: &'s [u8],
         room: usize,
-    ) -> Result<[[u8; HASH_LEN]; NODES], Refusal>
-        ensures { Cleared self.now key turn digest.now secret.now room result }
+    ) -> Result<(Ready<'d, 's>, [[u8; HASH_LEN]; NODES]), Refusal>
+        ensures { Cleared self.now message.now.key message.now.turn message.now.digest.now secret.now room result }
     {
-        let public = self
-            .publics
-            .signer(key, turn, digest, secret, SIGNATURE_LEN, room)?;
+        let ready = self.pages.signer(message, secret, SIGNATURE_LEN, room)?;
+        let secret = ready.secret;
         let nodes = tree_of(secret);
-        if !same_bytes(&nodes[ROOT], &public) {
-            return Err(refusal(Reason::Secret, key));
-        }
-        if self.spent[key as usize][turn as usize] {
-            return Err(refusal(Reason::TurnSpent, key));
-        }
-        Ok(nodes)
-    }
-
-    // Spends a turn.
-    fn spend(&mut self, key: u8, turn: u8)
-        requires { (key < 16) × (turn < 32) }
-        ensures public { (onetime_means self.new).public key ≡ (onetime_means self.old).public key }
-        ensures spent { (t : ℕ) → (onetime_means self.new).spent key t ≡ (t == turn || (onetime_means self.old).spent key t) }
-        ensures kept { Keeps key (onetime_means self.old) (onetime_means self.new) }
-    {
-        mark(&mut self.spent[key as usize], turn);
+        ready.clear(&nodes[ROOT], self.pages.at(ready.place))?;
+        Ok((ready, nodes))
     }
 }
 
@@ -148,11 +102,11 @@ impl Scheme for OneTime {
 
     const Q: usize = SECRET_LEN;
 
-    ghost siglen = { 2304 };
+    ghost L = { 2304 };
 
-    ghost publen = { 32 };
+    ghost P = { 32 };
 
-    ghost seclen = { 32 };
+    ghost Q = { 32 };
 
     ghost means = { onetime_means };
 
@@ -162,53 +116,43 @@ impl Scheme for OneTime {
 
     ghost proper = { Prim.search rules };
 
-    fn signature_len() -> usize {
-        Self::L
-    }
-
-    fn public_len() -> usize {
-        Self::P
-    }
-
-    fn secret_len() -> usize {
-        Self::Q
-    }
-
     fn enrolled(&self, key: u8) -> bool {
-        self.publics.get(key).is_some()
+        self.pages.get(key).is_some()
     }
 
     fn enrol(&mut self, key: u8, public: &[u8]) -> Result<(), Refusal> {
-        self.admit(key, public)
+        self.pages.enrol(key, public, false)
     }
 
+    #[tactic(auto, using(crate::proofs::States::spent_keeps))]
     fn sign(
         &mut self,
-        key: u8,
-        turn: u8,
-        digest: &[u8],
+        message: &Message<'_>,
         secret: &[u8],
         signature: &mut [u8],
     ) -> Result<(), Refusal>
-        ensures answer { result ≡ answer (sign_refusal 2304 32 fits_onetime (onetime_means self.old) key turn digest.now secret.now (length signature.old)) tt }
-        ensures after { After result (Spends key turn digest.now (take 2304 signature.new) (onetime_means self.old) (onetime_means self.new)) (onetime_means self.old) (onetime_means self.new) }
-        ensures kept { Keeps key (onetime_means self.old) (onetime_means self.new) }
+        ensures answer { result ≡ answer (sign_refusal 2304 32 fits_onetime (onetime_means self.old) message.now.key message.now.turn message.now.digest.now secret.now (length signature.old)) tt }
+        ensures after { After result (Spends message.now.key message.now.turn message.now.digest.now (take 2304 signature.new) (onetime_means self.old) (onetime_means self.new)) (onetime_means self.old) (onetime_means self.new) }
+        ensures kept { Keeps message.now.key (onetime_means self.old) (onetime_means self.new) }
         ensures buffer { Buffer 2304 result signature.old signature.new }
-        ensures bytes { SignatureWritten result secret.now turn digest.now signature.new }
+        ensures bytes { SignatureWritten result secret.now message.now.turn message.now.digest.now signature.new }
     {
-        let nodes = self.clear_to_sign(key, turn, digest, secret, signature.len())?;
-        write_signature(&nodes, turn, digest, secret, signature);
-        self.spend(key, turn);
+        let (ready, nodes) = self.clear_to_sign(message, secret, signature.len())?;
+        let Ready { digest, secret, .. } = ready;
+        write_signature(&nodes, message.turn, digest, secret, signature);
+        self.pages.put(ready.place, true);
         Ok(())
     }
 
-    fn check(&self, key: u8, turn: u8, digest: &[u8], signature: &[u8]) -> bool {
-        let Some(public) = self.publics.get(key) else {
+    fn check(&self, message: &Message<'_>, signature: &[u8]) -> bool {
+        let (Some(public), Some(_), Ok(digest), Ok(signature)) = (
+            self.pages.get(message.key),
+            message.place(),
+            <&[u8; DIGEST_LEN]>::try_from(message.digest),
+            <&[u8; SIGNATURE_LEN]>::try_from(signature),
+        ) else {
             return false;
         };
-        if turn as usize >= TURNS || digest.len() != DIGEST_LEN || signature.len() != Self::L {
-            return false;
-        }
-        same_bytes(&leads_to(turn, digest, signature), &public)
+        leads_to(message.turn, digest, signature) == public
     }
 }

@@ -1,9 +1,11 @@
-use Rattle.std.proofs.Common.{◌≡◌, ℕ, ◌≤◌, Bool, true, false, cond, List, [], ◌∷◌, ◌++◌, is_some, is_err, Some, None, Ok, Err, Option, Result, sym, refl, ap, ◌∙◌}
+use Rattle.std.proofs.Common.{◌≡◌, not, ℕ, ◌≤◌, Bool, true, false, cond, List, [], ◌∷◌, ◌++◌, is_some, is_err, Some, None, Ok, Err, Option, Result, sym, refl, ap, ◌∙◌}
 use Rattle.std.proofs.lemmas.Bool.{ltb-false, false≢true}
 use Rattle.turns.specs.Refusals.{Rung, first_found, answer}
 use Rattle.turns.specs.declared.refusal.Refusal.{Refusal}
 use Rattle.schemes.specs.Calls.{After, early_ladder, early_refusal, enrol_ladder, enrol_refusal, fits_key, late_ladder, late_refusal, sign_ladder, sign_refusal}
 use Rattle.schemes.specs.Meaning.{Keeps, Meaning}
+use Rattle.schemes.specs.Pages.{IsReady}
+use Rattle.schemes.specs.declared.keys.Ready.{Ready}
 
 -- no rung of a ladder applies
 abbrev pub NoneApplies : List Rung → Type 0
@@ -38,6 +40,15 @@ roomy siglen seclen fits m key turn digest secret room e =
 pub unspent : (siglen seclen : ℕ) (fits : List ℕ → List ℕ → Bool) (m : Meaning) (key turn : ℕ) (digest secret : List ℕ) (room : ℕ) → sign_refusal siglen seclen fits m key turn digest secret room ≡ None → m.spent key turn ≡ false
 unfolding sign_refusal
 unspent siglen seclen fits m key turn digest secret room e = (all_passed (sign_ladder siglen seclen fits m key turn digest secret room) e).1.1.1.1.0
+
+-- and of a secret that fits
+not_false : (b : Bool) → not b ≡ false → b ≡ true
+not_false true e = refl
+not_false false e = sym e
+
+pub fitting : (siglen seclen : ℕ) (fits : List ℕ → List ℕ → Bool) (m : Meaning) (key turn : ℕ) (digest secret : List ℕ) (room : ℕ) → sign_refusal siglen seclen fits m key turn digest secret room ≡ None → fits_key fits secret (m.public key) ≡ true
+unfolding sign_refusal
+fitting siglen seclen fits m key turn digest secret room e = not_false _ (all_passed (sign_ladder siglen seclen fits m key turn digest secret room) e).1.1.1.0
 
 -- a refused call leaves the meaning as it was
 pub unchanged : {A : Type 0} (r : Result A Refusal) (Left : Type 0) (m m' : Meaning) → After r Left m m' → is_err r ≡ true → m' ≡ m
@@ -78,6 +89,13 @@ module _ (siglen seclen : ℕ) (fits : List ℕ → List ℕ → Bool) (m : Mean
   sign_late public passed known =
       passed_early (early_ladder siglen seclen (m.public key) key turn digest secret room) late passed
       ∙ ap (λ (x : Option (List ℕ)). late_refusal key (fits_key fits secret x) (m.spent key turn)) known
+
+-- what was asked last of a signing that was ready decides
+pub sign_found : (siglen : ℕ) (fits : List ℕ → List ℕ → Bool) (m : Meaning) (key turn : ℕ) (digest secret : List ℕ) (room : ℕ) (r : Ready) → IsReady siglen (m.public key) key turn digest secret room r
+    → (fit is_spent : Bool) → fit ≡ fits secret r.public → is_spent ≡ m.spent key turn → (o : Option Refusal) → late_refusal r.key fit is_spent ≡ o → sign_refusal siglen 32 fits m key turn digest secret room ≡ o
+sign_found siglen fits m key turn digest secret room r ready fit is_spent same spent o found =
+    sign_late siglen 32 fits m key turn digest secret room r.public ready.unrefused ready.public_known
+    ∙ rw (sym same, sym spent, sym ready.same_key) found
 
 -- a call's answer, by what is found
 pub says_err : (o : Option Refusal) (e : Refusal) → o ≡ Some e → ◌≡◌ {A = Result Unit Refusal} (Err e) (answer o tt)

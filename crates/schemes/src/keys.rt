@@ -29,15 +29,15 @@ pub fn refusal(reason: Reason, key: u8) -> Refusal
 // A signing against which nothing but its secret or a spent turn can speak: its place, digest and secret, and the
 // public key of its key.
 #[derive(Clone, Copy)]
-pub struct Ready<'a> {
+pub struct Ready<'d, 's> {
     pub key: u8,
     pub place: Place,
-    pub digest: &'a [u8; DIGEST_LEN],
-    pub secret: &'a [u8; SECRET_LEN],
+    pub digest: &'d [u8; DIGEST_LEN],
+    pub secret: &'s [u8; SECRET_LEN],
     pub public: [u8; PUBLIC_LEN],
 }
 
-impl Ready<'_> {
+impl Ready<'_, '_> {
     // What is asked last: whether the secret leads to the public key, and whether the turn is spent.
     pub fn clear(&self, root: &[u8; PUBLIC_LEN], is_spent: bool) -> Result<(), Refusal>
         ensures { result ≡ answer (late_refusal self.now.key (bytes_eq root.now self.now.public) is_spent) tt }

@@ -78,13 +78,13 @@ impl<T: Copy> Pages<T> {
     }
 
     // A signing that nothing but its secret or a spent turn can speak against.
-    pub fn signer<'a>(
+    pub fn signer<'d, 's>(
         &self,
-        message: &Message<'a>,
-        secret: &'a [u8],
+        message: &Message<'d>,
+        secret: &'s [u8],
         signature_len: usize,
         room: usize,
-    ) -> Result<Ready<'a>, Refusal>
+    ) -> Result<Ready<'d, 's>, Refusal>
         ensures { Signer signature_len (public_of self.now message.now.key) message.now.key message.now.turn message.now.digest.now secret.now room result }
     {
         let (Some(place), Ok(digest), Ok(secret)) = (

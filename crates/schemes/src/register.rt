@@ -46,12 +46,12 @@ impl Register {
     }
 
     // What a signing enters, if nothing speaks against it.
-    fn clear_to_sign<'a>(
+    fn clear_to_sign<'d, 's>(
         &self,
-        message: &Message<'a>,
-        secret: &'a [u8],
+        message: &Message<'d>,
+        secret: &'s [u8],
         room: usize,
-    ) -> Result<Ready<'a>, Refusal>
+    ) -> Result<Ready<'d, 's>, Refusal>
         ensures { Cleared self.now message.now.key message.now.turn message.now.digest.now secret.now room result }
     {
         let ready = self.pages.signer(message, secret, SIGNATURE_LEN, room)?;

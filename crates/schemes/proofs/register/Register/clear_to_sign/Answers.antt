@@ -1,9 +1,9 @@
-use Rattle.std.proofs.Common.{◌≡◌, is_some, Some, None, sym, ◌∙◌, rules}
+use Rattle.std.proofs.Common.{◌≡◌, is_some, None, Option, rules}
 use Rattle.std.specs.Str.{bytes_eq}
 use Rattle.std.proofs.lemmas.Result.{err_from_is_err_and}
-use Rattle.schemes.specs.Calls.{late_refusal}
+use Rattle.schemes.specs.Calls.{sign_refusal}
 use Rattle.schemes.specs.Registers.{entry_of, fits_register, register_means}
-use Rattle.schemes.proofs.Ladders.{accepted, refused, sign_early, sign_late, unspent}
+use Rattle.schemes.proofs.Ladders.{accepted, refused, sign_early, sign_found, unspent}
 use Rattle.schemes.proofs.register.Register.clear_to_sign.Goals as goal
 
 pub returns-in_err-ready : goal.returns-in_err-ready
@@ -15,25 +15,19 @@ returns-in_err-ready c =
 pub returns-in_err-clear : goal.returns-in_err-clear
 returns-in_err-clear c =
     let p = err_from_is_err_and c.from_residual-in_err-clear.result c.from_residual-in_err-clear.ensures.1 in
-    let m = register_means c.args.self.now in
     let message = c.args.message.now in
-    let ready = c.in_ok-ready.ensures in
-    let late = sign_late 0 32 fits_register m message.key message.turn message.digest.now c.args.secret.now c.args.room _ ready.unrefused ready.public_known in
-    let fit : bytes_eq c.commitment.result c.in_ok-ready.ready.public ≡ fits_register c.args.secret.now c.in_ok-ready.ready.public = search rules in
-    let spent : c.is_some-is_spent.result ≡ is_some (entry_of c.args.self.now message.key message.turn) = search rules in
-    let found : late_refusal c.in_ok-ready.ready.key (bytes_eq c.commitment.result c.in_ok-ready.ready.public) c.is_some-is_spent.result ≡ Some c.in_err-clear.field-0.0 = refused _ _ _ c.in_err-clear.ensures in
-    rw (p.1, p.2) (late ∙ rw (sym fit, sym spent, sym ready.same_key) found)
+    rw (p.1, p.2)
+    (sign_found 0 fits_register (register_means c.args.self.now) message.key message.turn message.digest.now c.args.secret.now c.args.room c.in_ok-ready.ready c.in_ok-ready.ensures
+    (bytes_eq c.commitment.result c.in_ok-ready.ready.public) c.is_some-is_spent.result (search rules) (search rules) _ (refused _ _ _ c.in_err-clear.ensures))
 
 pub returns : goal.returns
 returns c =
     let m = register_means c.args.self.now in
     let message = c.args.message.now in
     let ready = c.in_ok-ready.ensures in
-    let late = sign_late 0 32 fits_register m message.key message.turn message.digest.now c.args.secret.now c.args.room _ ready.unrefused ready.public_known in
-    let fit : bytes_eq c.commitment.result c.in_ok-ready.ready.public ≡ fits_register c.args.secret.now c.in_ok-ready.ready.public = search rules in
-    let spent : c.is_some-is_spent.result ≡ is_some (entry_of c.args.self.now message.key message.turn) = search rules in
-    let found : late_refusal c.in_ok-ready.ready.key (bytes_eq c.commitment.result c.in_ok-ready.ready.public) c.is_some-is_spent.result ≡ None = accepted _ _ _ c.in_ok-clear.ensures in
-    let unrefused = late ∙ rw (sym fit, sym spent, sym ready.same_key) found in
+    let unrefused =
+    sign_found 0 fits_register m message.key message.turn message.digest.now c.args.secret.now c.args.room c.in_ok-ready.ready ready
+    (bytes_eq c.commitment.result c.in_ok-ready.ready.public) c.is_some-is_spent.result (search rules) (search rules) _ (accepted _ _ _ c.in_ok-clear.ensures) in
     record {
       ready = ready;
       unrefused = unrefused;
