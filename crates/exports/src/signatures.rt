@@ -1,9 +1,10 @@
-ghost use Rattle.std.specs.Prelude.{◌≡◌, false, length, MatchOption, ◌==◌};
+ghost use Rattle.std.specs.Prelude.{◌≡◌, false, length, MatchResult, ◌==◌};
 ghost use Rattle.exports.specs.Answers.{Holds, as_key, can_root, can_sign, rooted, signed};
 ghost use Rattle.onetime.specs.Signatures.{accepted_by};
 
 use onetime::OneTime;
 use schemes::{Message, PUBLIC_LEN, Scheme};
+use turns::Refusal;
 
 const KEY: u8 = 0;
 
@@ -24,12 +25,12 @@ pub extern "C" fn kofnasig_onetime_root(secret: &[u8], public: &mut [u8]) -> boo
 }
 
 // A scheme in which key 0 has this public key.
-fn with_key(public: &[u8]) -> Option<OneTime>
-    ensures { MatchOption result ((length public.now == 32) ≡ false) (λ s. Holds public.now s) }
+fn with_key(public: &[u8]) -> Result<OneTime, Refusal>
+    ensures { MatchResult result (λ s. Holds public.now s) (λ _. (length public.now == 32) ≡ false) }
 {
     let mut scheme = OneTime::new();
-    scheme.enrol(KEY, public).ok()?;
-    Some(scheme)
+    scheme.enrol(KEY, public)?;
+    Ok(scheme)
 }
 
 // Writes the signature of a digest at a turn into the first 2304 of the lent bytes, if the secret fits the public key.
@@ -44,10 +45,14 @@ pub extern "C" fn kofnasig_onetime_sign(
     ensures answer { result ≡ can_sign public.now secret.now turn digest.now signature.old }
     ensures after { signature.new ≡ signed public.now secret.now turn digest.now signature.old }
 {
-    let Some(mut scheme) = with_key(public) else {
+    let Ok(mut scheme) = with_key(public) else {
         return false;
     };
-    let message = Message { key: KEY, turn, digest };
+    let message = Message {
+        key: KEY,
+        turn,
+        digest,
+    };
     scheme.sign(&message, secret, signature).is_ok()
 }
 
@@ -61,9 +66,13 @@ pub extern "C" fn kofnasig_onetime_check(
 ) -> bool
     ensures { result ≡ accepted_by (as_key public.now) turn digest.now signature.now }
 {
-    let Some(scheme) = with_key(public) else {
+    let Ok(scheme) = with_key(public) else {
         return false;
     };
-    let message = Message { key: KEY, turn, digest };
+    let message = Message {
+        key: KEY,
+        turn,
+        digest,
+    };
     scheme.check(&message, signature)
 }

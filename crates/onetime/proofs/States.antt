@@ -1,6 +1,5 @@
-use Rattle.std.proofs.Common.{◌≡◌, ℕ, ◌<◌, Bool, true, false, cond, ◌&&◌, ◌||◌, eqb, List, length, is_some, Some, Option, sym, refl, ap, ◌∙◌, inl, inr, arith}
+use Rattle.std.proofs.Common.{◌≡◌, ℕ, ◌<◌, true, false, cond, ◌&&◌, eqb, List, length, Some, Option, sym, ap, ◌∙◌, arith}
 use Rattle.std.proofs.lemmas.Slice.Eq.{bytes_eq-Decides}
-use Rattle.std.proofs.lemmas.Bool.{and_left, and_parts, cases_eq, cond-false, cond-true, eq-eqb, false≢true, ne_eqb}
 use Rattle.schemes.specs.Pages.{at, public_of}
 use Rattle.schemes.proofs.Kept.{sign_keeps}
 use Rattle.schemes.specs.Meaning.{Keeps}

@@ -5,8 +5,8 @@ use Rattle.exports.proofs.signatures.kofnasig_onetime_sign.Goals as goal
 
 pub returns : goal.returns
 returns c =
-    let key = c.in-Some.ensures in
-    let m = onetime_means c.in-Some.scheme in
+    let key = c.in-Ok.ensures in
+    let m = onetime_means c.in-Ok.scheme in
     let public = c.args.public.now in
     let secret = c.args.secret.now in
     let digest = c.args.digest.now in

@@ -1,10 +1,10 @@
-use Rattle.std.proofs.Common.{◌≡◌, ℕ, ◌<◌, List, sym, ap, ◌∙◌, rules}
+use Rattle.std.proofs.Common.{ℕ, ◌<◌, List, sym, ap, ◌∙◌, rules}
 use Rattle.std.specs.Str.{bytes_eq}
 use Rattle.std.proofs.lemmas.Result.{err_from_is_err_and}
 use Rattle.schemes.specs.Calls.{fits_key}
 use Rattle.schemes.proofs.Ladders.{accepted, fitting, refused, sign_early, sign_found}
 use Rattle.onetime.specs.Meanings.{fits_onetime, onetime_means}
-use Rattle.onetime.specs.Trees.{Grown, root}
+use Rattle.onetime.specs.Trees.{root}
 use Rattle.onetime.proofs.Levels.{root_stands}
 use Rattle.onetime.proofs.States.{will_accept}
 use Rattle.onetime.proofs.scheme.OneTime.clear_to_sign.Goals as goal

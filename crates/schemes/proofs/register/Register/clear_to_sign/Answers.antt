@@ -1,8 +1,7 @@
-use Rattle.std.proofs.Common.{◌≡◌, is_some, None, Option, rules}
+use Rattle.std.proofs.Common.{rules}
 use Rattle.std.specs.Str.{bytes_eq}
 use Rattle.std.proofs.lemmas.Result.{err_from_is_err_and}
-use Rattle.schemes.specs.Calls.{sign_refusal}
-use Rattle.schemes.specs.Registers.{entry_of, fits_register, register_means}
+use Rattle.schemes.specs.Registers.{fits_register, register_means}
 use Rattle.schemes.proofs.Ladders.{accepted, refused, sign_early, sign_found, unspent}
 use Rattle.schemes.proofs.register.Register.clear_to_sign.Goals as goal
 
