@@ -1,4 +1,5 @@
-ghost use Rattle.std.specs.Prelude.{◌≡◌, ◌+◌, ◌≤◌, length};
+ghost use Rattle.std.specs.Prelude.{◌≡◌, ◌+◌, ◌≤◌, ◌++◌, ◌<◌, ◌^◌, length};
+ghost use Rattle.hash.specs.Sha256.{sha_256};
 ghost use Rattle.onetime.specs.Hashes.{chain_start, chain_step, leaf, node};
 ghost use Rattle.std.proofs.Math.Seq.{paste};
 
@@ -19,16 +20,25 @@ pub(crate) fn put(bytes: &mut [u8], at: usize, value: &[u8; HASH_LEN])
     bytes[at..at + HASH_LEN].copy_from_slice(value);
 }
 
+// The hash of N bytes: those of a head, and of a body behind it.
+fn hash_of<const N: usize>(head: &[u8], body: &[u8]) -> [u8; HASH_LEN]
+    requires whole { length head.now + length body.now ≡ N }
+    requires small { N < 2 ^ 63 }
+    ensures { result ≡ sha_256 (head.now ++ body.now) }
+{
+    let mut bytes = [0; N];
+    let all = &mut bytes[..];
+    all[..head.len()].copy_from_slice(head);
+    all[head.len()..].copy_from_slice(body);
+    sha256(&bytes)
+}
+
 // Where a chain of a turn starts.
 pub(crate) fn chain_start(turn: u8, chain: u8, secret: &[u8]) -> [u8; HASH_LEN]
     requires { length secret.now ≡ 32 }
     ensures { result ≡ chain_start secret.now turn chain }
 {
-    let mut bytes = [0; 3 + HASH_LEN];
-    bytes[1] = turn;
-    bytes[2] = chain;
-    bytes[3..3 + HASH_LEN].copy_from_slice(secret);
-    sha256(&bytes)
+    hash_of::<35>(&[0, turn, chain], secret)
 }
 
 // One step of a chain.
@@ -40,31 +50,20 @@ pub(crate) fn chain_step(
 ) -> [u8; HASH_LEN]
     ensures { result ≡ chain_step turn chain position value.now }
 {
-    let mut bytes = [1; 4 + HASH_LEN];
-    bytes[1] = turn;
-    bytes[2] = chain;
-    bytes[3] = position;
-    bytes[4..4 + HASH_LEN].copy_from_slice(value);
-    sha256(&bytes)
+    hash_of::<36>(&[1, turn, chain, position], value)
 }
 
 // A node over two of a level.
 pub(crate) fn node(level: u8, left: &[u8; HASH_LEN], right: &[u8; HASH_LEN]) -> [u8; HASH_LEN]
     ensures { result ≡ node level left.now right.now }
 {
-    let mut bytes = [3; 2 + 2 * HASH_LEN];
-    bytes[1] = level;
-    put(&mut bytes, 2, left);
-    put(&mut bytes, 2 + HASH_LEN, right);
-    sha256(&bytes)
+    let pair = [*left, *right];
+    hash_of::<66>(&[3, level], pair.as_flattened())
 }
 
 // A leaf over the ends of a turn's chains.
 pub(crate) fn leaf(turn: u8, ends: &[u8; CHAINS_LEN]) -> [u8; HASH_LEN]
     ensures { result ≡ leaf turn ends.now }
 {
-    let mut bytes = [2; 2 + CHAINS_LEN];
-    bytes[1] = turn;
-    bytes[2..2 + CHAINS_LEN].copy_from_slice(ends);
-    sha256(&bytes)
+    hash_of::<2146>(&[2, turn], ends)
 }
