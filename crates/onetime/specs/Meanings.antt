@@ -5,6 +5,7 @@ use Rattle.schemes.specs.Keys.{public_of}
 use Rattle.schemes.specs.Meaning.{Meaning}
 use Rattle.turns.specs.declared.refusal.Refusal.{Refusal}
 use Rattle.onetime.specs.declared.scheme.OneTime.{OneTime}
+use Rattle.onetime.specs.declared.tree.Tree.{Tree}
 use Rattle.onetime.specs.Signatures.{accepted_by, signature}
 use Rattle.onetime.specs.Trees.{Grown, root}
 
@@ -29,17 +30,17 @@ abbrev pub SignatureWritten : Result Unit Refusal → List ℕ → ℕ → List 
 SignatureWritten (Ok u) secret turn digest buffer = take 2304 buffer ≡ signature secret turn digest
 SignatureWritten (Err e) secret turn digest buffer = Unit {0}
 
--- nothing speaks against a signing, and these are the nodes of the secret's tree
-pub record MaySign (o : OneTime) (key turn : ℕ) (digest secret : List ℕ) (room : ℕ) (nodes : List (List ℕ)) : Type 0 where
+-- nothing speaks against a signing, and this is the secret's tree
+pub record MaySign (o : OneTime) (key turn : ℕ) (digest secret : List ℕ) (room : ℕ) (t : Tree) : Type 0 where
   pub unrefused : sign_refusal 2304 32 fits_onetime (onetime_means o) key turn digest secret room ≡ None
   pub key_low : key < 16
   pub turn_low : turn < 32
   pub digest_length : length digest ≡ 32
   pub secret_length : length secret ≡ 32
   pub room_enough : 2304 ≤ room
-  pub grown : Grown secret nodes
+  pub grown : Grown secret t
   pub accepted : (s : List ℕ) → s ≡ signature secret turn digest → (onetime_means o).accepts key turn digest s ≡ true
 
-abbrev pub Cleared : OneTime → ℕ → ℕ → List ℕ → List ℕ → ℕ → Result (List (List ℕ)) Refusal → Type 0
-Cleared o key turn digest secret room (Ok nodes) = MaySign o key turn digest secret room nodes
+abbrev pub Cleared : OneTime → ℕ → ℕ → List ℕ → List ℕ → ℕ → Result Tree Refusal → Type 0
+Cleared o key turn digest secret room (Ok t) = MaySign o key turn digest secret room t
 Cleared o key turn digest secret room (Err e) = sign_refusal 2304 32 fits_onetime (onetime_means o) key turn digest secret room ≡ Some e

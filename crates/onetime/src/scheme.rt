@@ -7,15 +7,13 @@ ghost use Rattle.schemes.specs.Meaning.{Keeps};
 ghost use Rattle.turns.specs.Refusals.{answer};
 ghost use Rattle.std.proofs.Common.{rules};
 
-use crate::chains::write_chains;
+use crate::chains::chains_at;
 use crate::digits::digits_of;
-use crate::parts::{CHAINS_LEN, HASH_LEN};
+use crate::parts::{CHAINS_LEN, Hash, SIGNATURE_LEN};
 use crate::paths::leads_to;
-use crate::tree::{LEVELS, NODES, ROOT, tree_of, write_path};
+use crate::tree::Tree;
 use schemes::{DIGEST_LEN, KEYS, PUBLIC_LEN, PublicKeys, SECRET_LEN, Scheme, TURNS, refusal};
 use turns::{Reason, Refusal, same_bytes};
-
-const SIGNATURE_LEN: usize = CHAINS_LEN + LEVELS as usize * HASH_LEN;
 
 // The one-time scheme: each turn of a key has a leaf of Winternitz chains, and the public key is the root over them.
 #[derive(Drop)]
@@ -47,30 +45,22 @@ fn root_of(secret: &[u8]) -> Option<[u8; PUBLIC_LEN]>
     ensures paths { PathsLeadUp }
     ensures accepted { SignaturesAccepted }
 {
-    if secret.len() != SECRET_LEN {
-        return None;
-    }
-    Some(tree_of(secret)[ROOT])
+    let secret = secret.as_array()?;
+    Some(Tree::of(secret).root)
 }
 
-// Writes a signature into the front of a lent buffer, from the nodes of the secret's tree.
-fn write_signature(
-    nodes: &[[u8; HASH_LEN]; NODES],
-    turn: u8,
-    digest: &[u8],
-    secret: &[u8],
-    out: &mut [u8],
-)
+// Writes a signature into the front of a lent buffer, with the tree of the secret.
+fn write_signature(tree: &Tree, turn: u8, digest: &[u8; DIGEST_LEN], secret: &Hash, out: &mut [u8])
     requires low { turn < 32 }
-    requires digest_long { length digest.now ≡ 32 }
-    requires secret_long { length secret.now ≡ 32 }
     requires room { 2304 ≤ length out.old }
-    requires grown { Grown secret.now nodes.now }
+    requires grown { Grown secret.now tree.now }
     ensures front { take 2304 out.new ≡ signature secret.now turn digest.now }
     ensures rest { drop 2304 out.new ≡ drop 2304 out.old }
 {
-    write_chains(turn, &digits_of(digest), secret, out);
-    write_path(nodes, turn, out);
+    let chains = chains_at(turn, &digits_of(digest), secret);
+    let path = tree.path(turn);
+    out[..CHAINS_LEN].copy_from_slice(chains.as_flattened());
+    out[CHAINS_LEN..SIGNATURE_LEN].copy_from_slice(path.as_flattened());
 }
 
 impl OneTime {
@@ -106,7 +96,7 @@ impl OneTime {
         Ok(())
     }
 
-    // The nodes of the secret's tree, if nothing speaks against a signing.
+    // The secret's tree, if nothing speaks against a signing.
     fn clear_to_sign(
         &self,
         key: u8,
@@ -114,20 +104,20 @@ impl OneTime {
         digest: &[u8],
         secret: &[u8],
         room: usize,
-    ) -> Result<[[u8; HASH_LEN]; NODES], Refusal>
+    ) -> Result<Tree, Refusal>
         ensures { Cleared self.now key turn digest.now secret.now room result }
     {
         let public = self
             .publics
             .signer(key, turn, digest, secret, SIGNATURE_LEN, room)?;
-        let nodes = tree_of(secret);
-        if !same_bytes(&nodes[ROOT], &public) {
+        let tree = Tree::of(secret.as_array().unwrap());
+        if !same_bytes(&tree.root, &public) {
             return Err(refusal(Reason::Secret, key));
         }
         if self.spent[key as usize][turn as usize] {
             return Err(refusal(Reason::TurnSpent, key));
         }
-        Ok(nodes)
+        Ok(tree)
     }
 
     // Spends a turn.
@@ -196,8 +186,9 @@ impl Scheme for OneTime {
         ensures buffer { Buffer 2304 result signature.old signature.new }
         ensures bytes { SignatureWritten result secret.now turn digest.now signature.new }
     {
-        let nodes = self.clear_to_sign(key, turn, digest, secret, signature.len())?;
-        write_signature(&nodes, turn, digest, secret, signature);
+        let tree = self.clear_to_sign(key, turn, digest, secret, signature.len())?;
+        let (digest, secret) = (digest.as_array().unwrap(), secret.as_array().unwrap());
+        write_signature(&tree, turn, digest, secret, signature);
         self.spend(key, turn);
         Ok(())
     }
@@ -206,7 +197,10 @@ impl Scheme for OneTime {
         let Some(public) = self.publics.get(key) else {
             return false;
         };
-        if turn as usize >= TURNS || digest.len() != DIGEST_LEN || signature.len() != Self::L {
+        let (Some(digest), Some(signature)) = (digest.as_array(), signature.as_array()) else {
+            return false;
+        };
+        if turn as usize >= TURNS {
             return false;
         }
         same_bytes(&leads_to(turn, digest, signature), &public)

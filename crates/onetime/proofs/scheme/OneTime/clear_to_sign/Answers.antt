@@ -3,7 +3,7 @@ use Rattle.std.specs.Str.{bytes_eq}
 use Rattle.std.proofs.lemmas.Result.{err_from_is_err_and}
 use Rattle.schemes.proofs.Ladders.{sign_early, sign_none, sign_secret, sign_spent}
 use Rattle.onetime.specs.Meanings.{fits_onetime, onetime_means}
-use Rattle.onetime.proofs.Levels.{root_stands}
+use Rattle.onetime.specs.Trees.{root}
 use Rattle.onetime.proofs.States.{will_accept}
 use Rattle.onetime.proofs.scheme.OneTime.clear_to_sign.Goals as goal
 
@@ -17,7 +17,8 @@ returns-then-not-same_bytes c =
     let m = onetime_means c.args.self.now in
     let secret = c.args.secret.now in
     let ready = c.in_ok-public.ensures in
-    let top = root_stands secret c.tree_of-nodes.result c.tree_of-nodes.ensures.grown in
+    let same = (rw c.unwrap.ensures at c.as_array.ensures.cases).same in
+    let top = c.of-tree.ensures.root ∙ ap root same in
     let wrong : fits_onetime secret c.in_ok-public.public ≡ false = ap (λ (x : List ℕ). bytes_eq x c.in_ok-public.public) (sym top) ∙ sym c.if-not-same_bytes.ensures in
     sign_secret 2304 32 fits_onetime m c.args.key c.args.turn c.args.digest.now secret c.args.room _ ready.unrefused ready.public_known wrong ∙ ap Some (sym c.refusal.ensures)
 
@@ -26,7 +27,8 @@ returns-then-self-key c =
     let m = onetime_means c.args.self.now in
     let secret = c.args.secret.now in
     let ready = c.in_ok-public.ensures in
-    let top = root_stands secret c.tree_of-nodes.result c.tree_of-nodes.ensures.grown in
+    let same = (rw c.unwrap.ensures at c.as_array.ensures.cases).same in
+    let top = c.of-tree.ensures.root ∙ ap root same in
     let right : fits_onetime secret c.in_ok-public.public ≡ true = ap (λ (x : List ℕ). bytes_eq x c.in_ok-public.public) (sym top) ∙ sym c.if-not-same_bytes.ensures in
     sign_spent 2304 32 fits_onetime m c.args.key c.args.turn c.args.digest.now secret c.args.room _ ready.unrefused ready.public_known right c.if-self-key.true ∙ ap Some (sym c.refusal-then-self-key.ensures)
 
@@ -37,7 +39,8 @@ returns c =
     let digest = c.args.digest.now in
     let public = c.in_ok-public.public in
     let ready = c.in_ok-public.ensures in
-    let top = root_stands secret c.tree_of-nodes.result c.tree_of-nodes.ensures.grown in
+    let same = (rw c.unwrap.ensures at c.as_array.ensures.cases).same in
+    let top = c.of-tree.ensures.root ∙ ap root same in
     let right : fits_onetime secret public ≡ true = ap (λ (x : List ℕ). bytes_eq x public) (sym top) ∙ sym c.if-not-same_bytes.ensures in
     record {
       unrefused = sign_none 2304 32 fits_onetime (onetime_means o) c.args.key c.args.turn digest secret c.args.room _ ready.unrefused ready.public_known right c.if-self-key.false;
@@ -46,6 +49,6 @@ returns c =
       digest_length = ready.digest_length;
       secret_length = ready.secret_length;
       room_enough = ready.room_enough;
-      grown = c.tree_of-nodes.ensures.grown;
+      grown = rw same at c.of-tree.ensures;
       accepted = will_accept o c.args.key c.args.turn digest secret public ready.public_known right ready.turn_low ready.digest_length;
     }
