@@ -69,7 +69,11 @@ pub(crate) fn chains_at(turn: u8, positions: &[u8; CHAINS], secret: &Hash) -> [H
 }
 
 // The chains of a turn, each walked on from its position to its end.
-pub(crate) fn ends_of(turn: u8, positions: &[u8; CHAINS], chains: &[Hash; CHAINS]) -> [Hash; CHAINS]
+pub(crate) fn finished_chains(
+    turn: u8,
+    positions: &[u8; CHAINS],
+    chains: &[Hash; CHAINS],
+) -> [Hash; CHAINS]
     ensures { (i : ℕ) → i < 67 → slice_index_or result i [] ≡ walk turn i (slice_index positions.now i) (15 - slice_index positions.now i) (slice_index_or chains.now i []) }
 {
     array::from_fn(

@@ -2,7 +2,7 @@ ghost use Rattle.std.specs.Prelude.{◌≡◌, ℕ, [], slice_index_or};
 ghost use Rattle.onetime.specs.Signatures.{leads_to};
 ghost use Rattle.onetime.specs.Trees.{climb};
 
-use crate::chains::ends_of;
+use crate::chains::finished_chains;
 use crate::digits::digits_of;
 use crate::parts::{CHAINS, HASH_LEN, Hash, LEVELS, SIGNATURE_LEN, leaf, node};
 use schemes::DIGEST_LEN;
@@ -29,6 +29,6 @@ pub(crate) fn leads_to(turn: u8, digest: &[u8; DIGEST_LEN], signature: &[u8; SIG
 {
     let (hashes, _) = signature.as_chunks::<HASH_LEN>();
     let (chains, path) = hashes.split_first_chunk::<CHAINS>().unwrap();
-    let ends = ends_of(turn, &digits_of(digest), chains);
+    let ends = finished_chains(turn, &digits_of(digest), chains);
     climb(turn, leaf(turn, &ends), path.as_array().unwrap())
 }

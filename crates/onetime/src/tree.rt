@@ -5,12 +5,13 @@ ghost use Rattle.onetime.specs.Trees.{Grown, beside, sibling};
 
 use crate::chains::leaf_of;
 use crate::parts::{Hash, LEVELS, node};
+use schemes::TURNS;
 use std::array;
 
 // All nodes of a secret's tree, level by level from the leaves up.
 #[derive(Drop)]
 pub(crate) struct Tree {
-    leaves: [Hash; 32],
+    leaves: [Hash; TURNS],
     level_1: [Hash; 16],
     level_2: [Hash; 8],
     level_3: [Hash; 4],
@@ -20,7 +21,7 @@ pub(crate) struct Tree {
 
 // The N nodes over two of a level each.
 fn nodes_over<const N: usize>(level: u8, below: &[Hash]) -> [Hash; N]
-    requires whole { length below.now ≡ 2 * N }
+    requires { length below.now ≡ 2 * N }
     ensures { (i : ℕ) → i < N → slice_index_or result i [] ≡ node level (slice_index_or below.now (2 * i) []) (slice_index_or below.now (2 * i + 1) []) }
 {
     let (pairs, _) = below.as_chunks::<2>();
@@ -34,7 +35,6 @@ fn nodes_over<const N: usize>(level: u8, below: &[Hash]) -> [Hash; N]
 
 // The other child of the same parent.
 fn beside(i: u8) -> usize
-    requires { i < 32 }
     ensures is { result ≡ beside i }
     ensures near { result / 2 ≡ i / 2 }
 {

@@ -1,7 +1,7 @@
 use Rattle.std.proofs.Common.{ℕ, ◌-◌, [], get_or, rules}
 use Rattle.onetime.specs.Chains.{walk}
 use Rattle.onetime.proofs.Made.{made_by}
-use Rattle.onetime.proofs.chains.ends_of.Goals as goal
+use Rattle.onetime.proofs.chains.finished_chains.Goals as goal
 
 pub returns : goal.returns
 returns c =
