@@ -1,61 +1,31 @@
-use Rattle.std.proofs.Common.{◌≡◌, ℕ, zero, suc, ◌+◌, ◌-◌, ◌*◌, ◌^◌, ◌<◌, ◌≤◌, List, [], get_or, sym, refl, ap, ◌∙◌, subst, inl, inr, add-one, arith, lit<, lit≤}
-use native.Mathlib.Nat.{pow-le-pow_right}
-use Rattle.std.proofs.lemmas.Bool.{cases_lt}
+use Rattle.std.proofs.Common.{◌≡◌, ℕ, zero, suc, ◌+◌, ◌*◌, ◌<◌, List, [], ◌∷◌, get_or, ap, ◌∙◌, arith}
 use Rattle.onetime.specs.Chains.{leaf_of}
 use Rattle.onetime.specs.Hashes.{node}
-use Rattle.onetime.specs.Trees.{Grown, root, tree}
-
--- the levels of a tree up to one stand in a list of its nodes
-abbrev pub Levels : List ℕ → List (List ℕ) → ℕ → Type 0
-Levels secret nodes top = (level i : ℕ) → level ≤ top → i < 2 ^ (5 - level) → get_or nodes (2 ^ (5 - level) + i) [] ≡ tree secret level i
-
--- each level has half as many nodes as the one below
-pub halves : (v : ℕ) → v < 5 → 2 ^ (5 - v) ≡ 2 * 2 ^ (5 - (v + 1))
-halves zero h = refl
-halves (suc zero) h = refl
-halves (suc (suc zero)) h = refl
-halves (suc (suc (suc zero))) h = refl
-halves (suc (suc (suc (suc zero)))) h = refl
-halves (suc (suc (suc (suc (suc v))))) h = absurd (omega arith)
-
-pub wider : (u v : ℕ) → u ≤ v → 2 ^ (5 - v) ≤ 2 ^ (5 - u)
-wider u v h = let less : 5 - v ≤ 5 - u = omega arith in pow-le-pow_right {n = 2} (lit< tt) less
+use Rattle.onetime.specs.Trees.{Level, beside, sibling, above, tree}
 
 module _ (secret : List ℕ) where
-  pub leaves_stand : (nodes : List (List ℕ)) → ((t : ℕ) → t < 32 → get_or nodes (32 + t) [] ≡ leaf_of secret t) → Levels secret nodes 0
+  pub leaves_stand : (n : ℕ) (nodes : List (List ℕ)) → ((i : ℕ) → i < n → get_or nodes i [] ≡ leaf_of secret i) → Level secret 0 n nodes
   unfolding tree
-  leaves_stand nodes leaves zero i h lt = leaves i lt
-  leaves_stand nodes leaves (suc v) i h lt = absurd (omega arith)
+  leaves_stand n nodes each = each
 
-  tree_more : (v i : ℕ) → node v (tree secret v (2 * i)) (tree secret v (2 * i + 1)) ≡ tree secret (v + 1) i
-  unfolding tree
-  tree_more v i = ap (λ (n : ℕ). tree secret n i) (sym (add-one v))
+  module _ (level n : ℕ) (below : List (List ℕ)) (was : Level secret level (2 * n) below) where
+    pub over : (i : ℕ) → i < n → node level (get_or below (2 * i) []) (get_or below (2 * i + 1) []) ≡ tree secret (suc level) i
+    unfolding tree
+    over i low =
+        ap (λ (x : List ℕ). node level x (get_or below (2 * i + 1) [])) (was (2 * i) (omega arith))
+        ∙ ap (λ (x : List ℕ). node level (tree secret level (2 * i)) x) (was (2 * i + 1) (omega arith))
 
-  module _ (old new : List (List ℕ)) (v w : ℕ) (low : v < 5) (width : w ≡ 2 ^ (5 - (v + 1))) (was : Levels secret old v)
-      (made : (k : ℕ) → w ≤ k → k < 2 * w → get_or new k [] ≡ node v (get_or old (2 * k) []) (get_or old (2 * k + 1) []))
-      (kept : (k : ℕ) → 2 * w ≤ k → get_or new k [] ≡ get_or old k []) where
-    lower : (u i : ℕ) → u ≤ v → i < 2 ^ (5 - u) → get_or new (2 ^ (5 - u) + i) [] ≡ tree secret u i
-    lower u i h lt = kept (2 ^ (5 - u) + i) (omega (arith, wider u v h, halves v low)) ∙ was u i h lt
+    pub level_up : (nodes : List (List ℕ)) → ((i : ℕ) → i < n → get_or nodes i [] ≡ node level (get_or below (2 * i) []) (get_or below (2 * i + 1) [])) → Level secret (suc level) n nodes
+    level_up nodes made i low = made i low ∙ over i low
 
-    upper : (i : ℕ) → i < 2 ^ (5 - (v + 1)) → get_or new (2 ^ (5 - (v + 1)) + i) [] ≡ tree secret (v + 1) i
-    upper i lt =
-        let half = halves v low in
-        let left : 2 * (w + i) ≡ 2 ^ (5 - v) + 2 * i = omega (arith, half) in
-        let right : 2 * (w + i) + 1 ≡ 2 ^ (5 - v) + (2 * i + 1) = omega (arith, half) in
-        ap (λ (n : ℕ). get_or new (n + i) []) (sym width)
-        ∙ made (w + i) (omega arith) (omega arith)
-        ∙ ap (λ (x : List ℕ). node v x (get_or old (2 * (w + i) + 1) [])) (ap (λ (k : ℕ). get_or old k []) left ∙ was v (2 * i) (omega arith) (omega (arith, half)))
-        ∙ ap (λ (x : List ℕ). node v (tree secret v (2 * i)) x) (ap (λ (k : ℕ). get_or old k []) right ∙ was v (2 * i + 1) (omega arith) (omega (arith, half)))
-        ∙ tree_more v i
+  -- a sibling, read from its level
+  pub sibling_stands : (level n turn i at : ℕ) (nodes : List (List ℕ)) → Level secret level n nodes → at ≡ beside i → at < n → i ≡ above turn level → get_or nodes at [] ≡ sibling secret turn level
+  sibling_stands level n turn i at nodes stands is low there = stands at low ∙ ap (tree secret level) (is ∙ ap beside there)
 
-    pub level_up : Levels secret new (v + 1)
-    level_up u i h lt =
-        elim (cases_lt v u) [
-          | inl top ↦
-              let e : v + 1 ≡ u = omega arith in
-              subst (λ (n : ℕ). (j : ℕ) → j < 2 ^ (5 - n) → get_or new (2 ^ (5 - n) + j) [] ≡ tree secret n j) e upper i lt
-          | inr below ↦ lower u i below lt
-        ]
-
-pub root_stands : (secret : List ℕ) (nodes : List (List ℕ)) → Grown secret nodes → get_or nodes 1 [] ≡ root secret
-root_stands secret nodes grown = grown 5 0 (lit≤ tt) (lit< tt)
+  pub path_stands : (turn : ℕ) (a b c d e : List ℕ) → a ≡ sibling secret turn 0 → b ≡ sibling secret turn 1 → c ≡ sibling secret turn 2 → d ≡ sibling secret turn 3 → e ≡ sibling secret turn 4 → (v : ℕ) → v < 5 → get_or (a ∷ (b ∷ (c ∷ (d ∷ (e ∷ []))))) v [] ≡ sibling secret turn v
+  path_stands turn a b c d e p q r s t zero low = p
+  path_stands turn a b c d e p q r s t (suc zero) low = q
+  path_stands turn a b c d e p q r s t (suc (suc zero)) low = r
+  path_stands turn a b c d e p q r s t (suc (suc (suc zero))) low = s
+  path_stands turn a b c d e p q r s t (suc (suc (suc (suc zero)))) low = t
+  path_stands turn a b c d e p q r s t (suc (suc (suc (suc (suc v))))) low = absurd (omega arith)

@@ -1,4 +1,5 @@
 mod Levels
+mod Made
 mod Nibbles
 mod Runs
 mod Siblings

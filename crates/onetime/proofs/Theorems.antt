@@ -1,17 +1,18 @@
-use Rattle.std.proofs.Common.{◌≡◌, ℕ, zero, suc, ◌+◌, ◌-◌, ◌*◌, ◌/◌, ◌%◌, ◌<◌, ◌≤◌, eqb, leb, List, [], ◌++◌, length, get_or, take, drop, sym, refl, ap, ◌∙◌, inl, inr, arith, lit≤}
+use Rattle.std.proofs.Common.{◌≡◌, ℕ, zero, suc, ◌+◌, ◌-◌, ◌*◌, ◌/◌, ◌%◌, ◌<◌, ◌≤◌, eqb, leb, List, [], ◌++◌, length, take, drop, sym, refl, ap, ◌∙◌, inl, inr, arith, lit≤}
+use borrow.Rule.Slice.PartMut.{put_mid}
 use Rattle.hash.specs.Sha256.{sha_256_length}
 use Rattle.std.proofs.lemmas.Slice.Eq.{bytes_eq-Decides}
-use Rattle.std.proofs.lemmas.List.{append-nil, drop_at, drop-drop, length-append, take_at}
+use Rattle.std.proofs.lemmas.List.{append_assoc, append-nil, drop_at, drop-drop, length-append, take_at}
 use Rattle.std.proofs.lemmas.Bool.{and_from, cases_eq, eq-eqb, le-leb}
 use Rattle.onetime.specs.Blocks.{hash_at, joined_to}
 use Rattle.onetime.specs.Chains.{chain_at, chain_ends, finished_chains, leaf_of, signed_chains, walk}
 use Rattle.onetime.specs.Digits.{digit}
 use Rattle.onetime.specs.Hashes.{chain_start, leaf, node}
 use Rattle.onetime.specs.Signatures.{ChainsMeet, PathsLeadUp, SignaturesAccepted, leads_to, signature}
-use Rattle.onetime.specs.Trees.{Grown, above, beside, climb, parent, root, sibling, tree}
+use Rattle.onetime.specs.Trees.{above, beside, climb, parent, root, sibling, tree}
 use Rattle.onetime.proofs.Nibbles.{digits_small}
 use Rattle.onetime.proofs.Runs.{hash_at_joined, joined_length, joined_same}
-use Rattle.onetime.proofs.Siblings.{below_width, beside_even, beside_odd, parent_even, parent_odd, path_stands}
+use Rattle.onetime.proofs.Siblings.{above_is, beside_even, beside_odd, climb_same, parent_even, parent_odd}
 use Rattle.onetime.proofs.Steps.{chain_length, walk_on}
 
 pub chains_meet : ChainsMeet
@@ -55,15 +56,8 @@ module _ (secret : List ℕ) where
 
 pub paths_lead_up : PathsLeadUp
 paths_lead_up secret turn low =
-    let top : above turn 5 ≡ 0 = omega (arith, below_width turn (omega arith) 5 (lit≤ tt)) in
+    let top : above turn 5 ≡ 0 = omega (arith, above_is turn 5) in
     path_in_tree secret turn 5 ∙ ap (λ (i : ℕ). tree secret 5 i) top
-
-climb_same : (f g : ℕ → List ℕ) (turn : ℕ) (bottom : List ℕ) (n : ℕ) → ((v : ℕ) → v < n → f v ≡ g v) → climb f turn bottom n ≡ climb g turn bottom n
-unfolding climb
-climb_same f g turn bottom zero same = refl
-climb_same f g turn bottom (suc n) same =
-    ap (λ (x : List ℕ). parent n (above turn n) x (f n)) (climb_same f g turn bottom n (λ v h. same v (omega arith)))
-    ∙ ap (λ (x : List ℕ). parent n (above turn n) (climb g turn bottom n) x) (same n (omega arith))
 
 -- a hash behind a run of m others
 hash_behind : (m v : ℕ) (x y : List ℕ) → length x ≡ 32 * m → hash_at (m + v) (x ++ y) ≡ hash_at v y
@@ -82,11 +76,11 @@ module _ (secret digest : List ℕ) (turn : ℕ) where
   unfolding chain
   long_chain i h = chain_length secret turn i (digit digest i)
 
-  chains_length : length (signed_chains secret turn digest) ≡ 2144
+  pub chains_length : length (signed_chains secret turn digest) ≡ 2144
   unfolding chain
   chains_length = joined_length chain 67 long_chain 67 (lit≤ tt)
 
-  path_length : length (joined_to (sibling secret turn) 5) ≡ 160
+  pub path_length : length (joined_to (sibling secret turn) 5) ≡ 160
   path_length = joined_length (sibling secret turn) 5 (λ v h. tree_length secret v (beside (above turn v))) 5 (lit≤ tt)
 
   pub signature_length : length (signature secret turn digest) ≡ 2304
@@ -108,7 +102,7 @@ module _ (secret digest : List ℕ) (turn : ℕ) where
 
   pub leads_to_root : turn ≤ 31 → leads_to turn digest (signature secret turn digest) ≡ root secret
   leads_to_root low =
-      climb_same (λ level. hash_at (67 + level) (signature secret turn digest)) (sibling secret turn) turn (leaf turn (finished_chains turn digest (signature secret turn digest))) 5 path_is_path
+      climb_same (λ level. hash_at (67 + level) (signature secret turn digest)) turn (leaf turn (finished_chains turn digest (signature secret turn digest))) (sibling secret turn) 5 path_is_path
       ∙ ap (λ (x : List ℕ). climb (sibling secret turn) turn (leaf turn x) 5) ends_are_ends
       ∙ paths_lead_up secret turn low
 
@@ -119,14 +113,13 @@ signatures_accepted secret digest turn low long =
     (and_from (eqb (length (signature secret turn digest)) 2304) _ (eq-eqb (length (signature secret turn digest)) 2304 (signature_length secret digest turn))
     ((bytes_eq-Decides (leads_to turn digest (signature secret turn digest)) (root secret)).1 (leads_to_root secret digest turn low))))
 
--- what is left in a lent buffer e by the writing of the chains, and then of the path from a tree's nodes
-pub whole_signature : (secret digest : List ℕ) (turn : ℕ) → turn < 32 → (nodes : List (List ℕ)) → Grown secret nodes → (e chains out : List ℕ) → chains ≡ signed_chains secret turn digest ++ drop 2144 e → out ≡ (take 2144 chains ++ joined_to (λ v. get_or nodes (beside (above (32 + turn) v)) []) 5) ++ drop 2304 chains → out ≡ signature secret turn digest ++ drop 2304 e
-whole_signature secret digest turn low nodes grown e chains out p q =
-    let front = signed_chains secret turn digest in
-    let path = λ (v : ℕ). get_or nodes (beside (above (32 + turn) v)) [] in
-    let long = chains_length secret digest turn in
-    let rest : drop 2304 chains ≡ drop 2304 e = ap (drop 2304) p ∙ sym (drop-drop 160 2144 (front ++ drop 2144 e)) ∙ ap (drop 160) (drop_at front (drop 2144 e) 2144 long) ∙ drop-drop 160 2144 e in
-    q
-    ∙ ap (λ (x : List ℕ). (x ++ joined_to path 5) ++ drop 2304 chains) (ap (take 2144) p ∙ take_at front (drop 2144 e) 2144 long)
-    ∙ ap (λ (x : List ℕ). (front ++ x) ++ drop 2304 chains) (joined_same path (sibling secret turn) 5 (path_stands turn low secret nodes grown))
-    ∙ ap (λ (x : List ℕ). signature secret turn digest ++ x) rest
+-- the chains and the path, written one behind the other into a lent buffer e
+pub signature_written : (secret digest : List ℕ) (turn : ℕ) (chains path e : List ℕ) → chains ≡ signed_chains secret turn digest → path ≡ joined_to (sibling secret turn) 5 → put_mid 2144 160 (chains ++ drop 2144 e) path ≡ signature secret turn digest ++ drop 2304 e
+signature_written secret digest turn chains path e p q =
+    let long : length chains ≡ 2144 = ap length p ∙ chains_length secret digest turn in
+    ap (λ (x : List ℕ). x ++ (path ++ drop 160 (drop 2144 (chains ++ drop 2144 e)))) (take_at chains (drop 2144 e) 2144 long)
+    ∙ ap (λ (x : List ℕ). chains ++ (path ++ drop 160 x)) (drop_at chains (drop 2144 e) 2144 long)
+    ∙ ap (λ (x : List ℕ). chains ++ (path ++ x)) (drop-drop 160 2144 e)
+    ∙ sym (append_assoc chains path (drop 2304 e))
+    ∙ ap (λ (x : List ℕ). (x ++ path) ++ drop 2304 e) p
+    ∙ ap (λ (x : List ℕ). (signed_chains secret turn digest ++ x) ++ drop 2304 e) q

@@ -6,6 +6,7 @@ use Rattle.schemes.specs.Pages.{IsReady, at, public_of}
 use Rattle.schemes.specs.declared.keys.Ready.{Ready}
 use Rattle.turns.specs.declared.refusal.Refusal.{Refusal}
 use Rattle.onetime.specs.declared.scheme.OneTime.{OneTime}
+use Rattle.onetime.specs.declared.tree.Tree.{Tree}
 use Rattle.onetime.specs.Signatures.{accepted_by, signature}
 use Rattle.onetime.specs.Trees.{Grown, root}
 
@@ -30,13 +31,13 @@ abbrev pub SignatureWritten : Result Unit Refusal → List ℕ → ℕ → List 
 SignatureWritten (Ok u) secret turn digest buffer = take 2304 buffer ≡ signature secret turn digest
 SignatureWritten (Err e) secret turn digest buffer = Unit {0}
 
--- nothing speaks against a signing, this is what it is about, and these are the nodes of the secret's tree
-pub record MaySign (o : OneTime) (key turn : ℕ) (digest secret : List ℕ) (room : ℕ) (signing : Ready) (nodes : List (List ℕ)) : Type 0 where
+-- nothing speaks against a signing, this is what it is about, and this is the secret's tree
+pub record MaySign (o : OneTime) (key turn : ℕ) (digest secret : List ℕ) (room : ℕ) (signing : Ready) (t : Tree) : Type 0 where
   pub ready : IsReady 2304 (public_of o.pages key) key turn digest secret room signing
   pub unrefused : sign_refusal 2304 32 fits_onetime (onetime_means o) key turn digest secret room ≡ None
-  pub grown : Grown secret nodes
+  pub grown : Grown secret t
   pub accepted : (s : List ℕ) → s ≡ signature secret turn digest → (onetime_means o).accepts key turn digest s ≡ true
 
-abbrev pub Cleared : OneTime → ℕ → ℕ → List ℕ → List ℕ → ℕ → Result (Ready × List (List ℕ)) Refusal → Type 0
-Cleared o key turn digest secret room (Ok (signing, nodes)) = MaySign o key turn digest secret room signing nodes
+abbrev pub Cleared : OneTime → ℕ → ℕ → List ℕ → List ℕ → ℕ → Result (Ready × Tree) Refusal → Type 0
+Cleared o key turn digest secret room (Ok (signing, t)) = MaySign o key turn digest secret room signing t
 Cleared o key turn digest secret room (Err e) = sign_refusal 2304 32 fits_onetime (onetime_means o) key turn digest secret room ≡ Some e

@@ -1,4 +1,5 @@
-use Rattle.std.specs.Prelude.{◌≡◌, ℕ, zero, suc, ◌+◌, ◌-◌, ◌*◌, ◌/◌, ◌%◌, ◌^◌, ◌<◌, ◌≤◌, cond, List, [], ◌==◌, slice_index_or}
+use Rattle.std.specs.Prelude.{◌≡◌, ℕ, zero, suc, ◌+◌, ◌-◌, ◌*◌, ◌/◌, ◌%◌, ◌<◌, cond, List, [], ◌==◌, slice_index_or}
+use Rattle.onetime.specs.declared.tree.Tree.{Tree}
 use Rattle.onetime.specs.Chains.{leaf_of}
 use Rattle.onetime.specs.Hashes.{node}
 
@@ -33,6 +34,15 @@ unfoldable pub climb : (ℕ → List ℕ) → ℕ → List ℕ → ℕ → List 
 climb siblings turn bottom zero = bottom
 climb siblings turn bottom (suc level) = parent level (above turn level) (climb siblings turn bottom level) (siblings level)
 
--- the nodes of a tree in one list: the root is number 1, and the children of k are 2k and 2k + 1
-abbrev pub Grown : List ℕ → List (List ℕ) → Type 0
-Grown secret nodes = (level i : ℕ) → level ≤ 5 → i < 2 ^ (5 - level) → slice_index_or nodes (2 ^ (5 - level) + i) [] ≡ tree secret level i
+-- the first n nodes of a level of a secret's tree
+abbrev pub Level : List ℕ → ℕ → ℕ → List (List ℕ) → Type 0
+Level secret level n nodes = (i : ℕ) → i < n → slice_index_or nodes i [] ≡ tree secret level i
+
+-- the nodes of a secret's tree, level by level
+pub record Grown (secret : List ℕ) (t : Tree) : Type 0 where
+  pub leaves : Level secret 0 32 t.leaves
+  pub level_1 : Level secret 1 16 t.level_1
+  pub level_2 : Level secret 2 8 t.level_2
+  pub level_3 : Level secret 3 4 t.level_3
+  pub level_4 : Level secret 4 2 t.level_4
+  pub root : t.root ≡ root secret

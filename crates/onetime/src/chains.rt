@@ -1,64 +1,95 @@
-ghost use Rattle.std.specs.Prelude.{◌≡◌, ℕ, ◌+◌, ◌-◌, ◌*◌, ◌<◌, ◌≤◌, ◌++◌, length, drop, slice_index};
-ghost use Rattle.onetime.specs.Blocks.{hash_at, joined_to};
+ghost use Rattle.std.specs.Prelude.{◌≡◌, ℕ, ◌-◌, ◌<◌, [], slice_index, slice_index_or};
 ghost use Rattle.onetime.specs.Chains.{chain_at, leaf_of, walk};
+ghost use Rattle.onetime.specs.Hashes.{chain_start, chain_step};
 
-use crate::parts::{CHAINS, CHAINS_LEN, HASH_LEN, chain_start, chain_step, leaf, put};
+use crate::parts::{CHAINS, HASH_LEN, Hash, hash_of, leaf};
+use std::array;
+
+const START_LEN: usize = 3 + HASH_LEN;
+
+const STEP_LEN: usize = 4 + HASH_LEN;
 
 // The last position of a chain.
-pub(crate) const END: u8 = 15;
+const END: u8 = 15;
 
-// Walks a value on, from a position of a chain to another.
-pub(crate) fn walk(turn: u8, chain: u8, from: u8, to: u8, start: [u8; HASH_LEN]) -> [u8; HASH_LEN]
-    requires { from ≤ to }
-    ensures { result ≡ walk turn chain from (to - from) start }
-{
-    let mut value = start;
-    for position in from..to {
-        value = chain_step(turn, chain, position, &value);
-    }
-    value
+// A chain of a turn.
+#[derive(Clone, Copy)]
+struct Chain {
+    turn: u8,
+    number: u8,
 }
 
-// Hash number i of a run of hashes.
-pub(crate) fn hash_at(bytes: &[u8], i: usize) -> [u8; HASH_LEN]
-    requires { 32 * i + 32 ≤ length bytes.now }
-    ensures { result ≡ hash_at i bytes.now }
-{
-    let at = HASH_LEN * i;
-    let mut value = [0; HASH_LEN];
-    value.copy_from_slice(&bytes[at..at + HASH_LEN]);
-    value
-}
+impl Chain {
+    // Where it starts.
+    fn start(self, secret: &Hash) -> Hash
+        ensures { result ≡ chain_start secret.now self.turn self.number }
+    {
+        hash_of::<START_LEN>(&[0, self.turn, self.number], secret)
+    }
 
-// Writes each chain of a turn, at its position.
-pub(crate) fn write_chains(turn: u8, positions: &[u8; CHAINS], secret: &[u8], out: &mut [u8])
-    requires { (length secret.now ≡ 32) × (2144 ≤ length out.old) }
-    ensures { out.new ≡ joined_to (λ i. chain_at secret.now turn i (slice_index positions.now i)) 67 ++ drop 2144 out.old }
-{
-    for i in 0..CHAINS {
-        let start = chain_start(turn, i as u8, secret);
-        let value = walk(turn, i as u8, 0, positions[i], start);
-        put(out, HASH_LEN * i, &value);
+    // One step, from a position.
+    fn step(self, position: u8, value: &Hash) -> Hash
+        ensures { result ≡ chain_step self.turn self.number position value.now }
+    {
+        hash_of::<STEP_LEN>(&[1, self.turn, self.number, position], value)
+    }
+
+    // Walks a value on, from a position to another.
+    fn walk(self, from: u8, to: u8, start: Hash) -> Hash
+        ensures { result ≡ walk self.turn self.number from (to - from) start }
+    {
+        let mut value = start;
+        for position in from..to {
+            value = self.step(position, &value);
+        }
+        value
+    }
+
+    // The value at a position.
+    fn at(self, position: u8, secret: &Hash) -> Hash
+        ensures { result ≡ chain_at secret.now self.turn self.number position }
+    {
+        self.walk(0, position, self.start(secret))
     }
 }
 
-// Walks each chain of a signature on, from its position to its end.
-pub(crate) fn finish_chains(turn: u8, positions: &[u8; CHAINS], signature: &[u8], out: &mut [u8])
-    requires { (2144 ≤ length signature.now) × ((2144 ≤ length out.old) × (((i : ℕ) → i < 67 → slice_index positions.now i ≤ 15))) }
-    ensures { out.new ≡ joined_to (λ i. walk turn i (slice_index positions.now i) (15 - slice_index positions.now i) (hash_at i signature.now)) 67 ++ drop 2144 out.old }
+// The chains of a turn, each at its position.
+pub(crate) fn chains_at(turn: u8, positions: &[u8; CHAINS], secret: &Hash) -> [Hash; CHAINS]
+    ensures { (i : ℕ) → i < 67 → slice_index_or result i [] ≡ chain_at secret.now turn i (slice_index positions.now i) }
 {
-    for i in 0..CHAINS {
-        let value = walk(turn, i as u8, positions[i], END, hash_at(signature, i));
-        put(out, HASH_LEN * i, &value);
-    }
+    array::from_fn(
+        |i|
+            requires { i < 67 }
+            ensures { result ≡ chain_at secret.entry.now turn i (slice_index positions.entry.now i) }
+        {
+            let number = i as u8;
+            Chain { turn, number }.at(positions[i], secret)
+        },
+    )
+}
+
+// The chains of a turn, each walked on from its position to its end.
+pub(crate) fn finished_chains(
+    turn: u8,
+    positions: &[u8; CHAINS],
+    chains: &[Hash; CHAINS],
+) -> [Hash; CHAINS]
+    ensures { (i : ℕ) → i < 67 → slice_index_or result i [] ≡ walk turn i (slice_index positions.now i) (15 - slice_index positions.now i) (slice_index_or chains.now i []) }
+{
+    array::from_fn(
+        |i|
+            requires { i < 67 }
+            ensures { result ≡ walk turn i (slice_index positions.entry.now i) (15 - slice_index positions.entry.now i) (slice_index_or chains.entry.now i []) }
+        {
+            let number = i as u8;
+            Chain { turn, number }.walk(positions[i], END, chains[i])
+        },
+    )
 }
 
 // The leaf of a turn.
-pub(crate) fn leaf_of(turn: u8, secret: &[u8]) -> [u8; HASH_LEN]
-    requires { length secret.now ≡ 32 }
+pub(crate) fn leaf_of(turn: u8, secret: &Hash) -> Hash
     ensures { result ≡ leaf_of secret.now turn }
 {
-    let mut ends = [0; CHAINS_LEN];
-    write_chains(turn, &[END; CHAINS], secret, &mut ends);
-    leaf(turn, &ends)
+    leaf(turn, &chains_at(turn, &[END; CHAINS], secret))
 }

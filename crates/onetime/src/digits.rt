@@ -1,38 +1,50 @@
-ghost use Rattle.std.specs.Prelude.{◌≡◌, ℕ, ◌≤◌, [], ◌∷◌, length, drop, replicate, slice_index};
+ghost use Rattle.std.specs.Prelude.{◌≡◌, ℕ, [], ◌∷◌, drop, length, replicate, All, ◌≤◌, ◌/◌, ◌%◌};
+ghost use Rattle.std.specs.List.{flat_map};
 ghost use Rattle.onetime.specs.Digits.{digit_sum, digits_of, last_digits, nibbles};
 
 use crate::parts::CHAINS;
 use schemes::DIGEST_LEN;
 
-// The digits of a digest, one for each chain: two of each byte, and three of what those leave open in all.
-pub(crate) fn digits_of(digest: &[u8]) -> [u8; CHAINS]
-    requires { length digest.now ≡ 32 }
-    ensures is { result ≡ digits_of digest.now }
-    ensures small { (i : ℕ) → slice_index result i ≤ 15 }
+// How many digits the bytes of a digest have.
+const NIBBLES: usize = 2 * DIGEST_LEN;
+
+// The four-bit digits of a digest's bytes, the high half of each byte first.
+fn nibbles_of(digest: &[u8; DIGEST_LEN]) -> [[u8; 2]; DIGEST_LEN]
+    ensures { flat_map (λ x. x) result ≡ nibbles digest.now }
 {
-    let mut digits = [0; CHAINS];
-    let mut sum: u16 = 0;
-    for i in 0..DIGEST_LEN {
-        let high = digest[i] / 16;
-        let low = digest[i] % 16;
-        digits[2 * i] = high;
-        digits[2 * i + 1] = low;
-        sum += 30 - u16::from(high) - u16::from(low);
-    }
-    digits[64] = (sum / 256) as u8;
-    digits[65] = (sum / 16 % 16) as u8;
-    digits[66] = (sum % 16) as u8;
-    digits
+    digest.map(
+        |byte|
+            ensures { result ≡ byte / 16 ∷ (byte % 16 ∷ []) }
+        { [byte / 16, byte % 16] },
+    )
 }
 
-// The last three digits of a digest, with a worked example.
-fn last_digits(digest: &[u8]) -> [u8; 3]
-    requires { length digest.now ≡ 32 }
-    ensures is { result ≡ last_digits (digit_sum (nibbles digest.now)) }
-    ensures last { drop 64 (digits_of (replicate 32 0)) ≡ 3 ∷ (12 ∷ (0 ∷ [])) }
+// How far digits are from the last position of their chains, in all.
+fn digit_sum(digits: &[u8]) -> u16
+    requires small { All (λ d. d ≤ 15) digits.now }
+    requires few { length digits.now ≤ 64 }
+    ensures { result ≡ digit_sum digits.now }
 {
-    let digits = digits_of(digest);
-    [digits[64], digits[65], digits[66]]
+    digits.iter().map(|digit| u16::from(15 - *digit)).sum()
+}
+
+// Three four-bit digits of a number, highest first.
+fn last_digits(n: u16) -> [u8; 3]
+    ensures { result ≡ last_digits n }
+{
+    [(n / 256 % 16) as u8, (n / 16 % 16) as u8, (n % 16) as u8]
+}
+
+// The digits of a digest, one for each chain: two of each byte, and three of what those leave open in all.
+pub(crate) fn digits_of(digest: &[u8; DIGEST_LEN]) -> [u8; CHAINS]
+    ensures { result ≡ digits_of digest.now }
+{
+    let pairs = nibbles_of(digest);
+    let nibbles = pairs.as_flattened();
+    let mut digits = [0; CHAINS];
+    digits[..NIBBLES].copy_from_slice(nibbles);
+    digits[NIBBLES..].copy_from_slice(&last_digits(digit_sum(nibbles)));
+    digits
 }
 
 // A worked example: the digest of 32 zero bytes has digit sum 960, and so the last digits 3, 12 and 0.
@@ -41,5 +53,6 @@ pub fn last_digits_of_zeros() -> [u8; 3]
     ensures sum { digit_sum (nibbles (replicate 32 0)) ≡ 960 }
     ensures last { drop 64 (digits_of (replicate 32 0)) ≡ 3 ∷ (12 ∷ (0 ∷ [])) }
 {
-    last_digits(&[0; DIGEST_LEN])
+    let [.., a, b, c] = digits_of(&[0; DIGEST_LEN]);
+    [a, b, c]
 }

@@ -1,70 +1,49 @@
-ghost use Rattle.std.specs.Prelude.{◌≡◌, ◌+◌, ◌≤◌, length};
-ghost use Rattle.onetime.specs.Hashes.{chain_start, chain_step, leaf, node};
-ghost use Rattle.std.proofs.Math.Seq.{paste};
+ghost use Rattle.std.specs.Prelude.{◌≡◌, ℕ, ◌+◌, ◌<◌, ◌^◌, ◌++◌, [], length, slice_index_or};
+ghost use Rattle.std.specs.List.{flat_map};
+ghost use Rattle.hash.specs.Sha256.{sha_256};
+ghost use Rattle.onetime.specs.Hashes.{leaf, node};
 
 use hash::sha256;
 
 pub(crate) const HASH_LEN: usize = 32;
 
+pub(crate) type Hash = [u8; HASH_LEN];
+
 pub(crate) const CHAINS: usize = 67;
 
 pub(crate) const CHAINS_LEN: usize = CHAINS * HASH_LEN;
 
-// Writes a hash into a run of bytes.
-pub(crate) fn put(bytes: &mut [u8], at: usize, value: &[u8; HASH_LEN])
-    requires { at + 32 ≤ length bytes.old }
-    ensures long { length value.now ≡ 32 }
-    ensures after { bytes.new ≡ paste bytes.old at value.now 32 }
-{
-    bytes[at..at + HASH_LEN].copy_from_slice(value);
-}
+pub(crate) const LEVELS: usize = 5;
 
-// Where a chain of a turn starts.
-pub(crate) fn chain_start(turn: u8, chain: u8, secret: &[u8]) -> [u8; HASH_LEN]
-    requires { length secret.now ≡ 32 }
-    ensures { result ≡ chain_start secret.now turn chain }
-{
-    let mut bytes = [0; 3 + HASH_LEN];
-    bytes[1] = turn;
-    bytes[2] = chain;
-    bytes[3..3 + HASH_LEN].copy_from_slice(secret);
-    sha256(&bytes)
-}
+pub(crate) const SIGNATURE_LEN: usize = CHAINS_LEN + LEVELS * HASH_LEN;
 
-// One step of a chain.
-pub(crate) fn chain_step(
-    turn: u8,
-    chain: u8,
-    position: u8,
-    value: &[u8; HASH_LEN],
-) -> [u8; HASH_LEN]
-    ensures { result ≡ chain_step turn chain position value.now }
-{
-    let mut bytes = [1; 4 + HASH_LEN];
-    bytes[1] = turn;
-    bytes[2] = chain;
-    bytes[3] = position;
-    bytes[4..4 + HASH_LEN].copy_from_slice(value);
-    sha256(&bytes)
-}
+const LEAF_LEN: usize = 2 + CHAINS_LEN;
 
-// A node over two of a level.
-pub(crate) fn node(level: u8, left: &[u8; HASH_LEN], right: &[u8; HASH_LEN]) -> [u8; HASH_LEN]
-    ensures { result ≡ node level left.now right.now }
+const NODE_LEN: usize = 2 + 2 * HASH_LEN;
+
+// The hash of N bytes: those of a head, and of a body behind it.
+pub(crate) fn hash_of<const N: usize>(head: &[u8], body: &[u8]) -> Hash
+    requires whole { length head.now + length body.now ≡ N }
+    requires small { N < 2 ^ 63 }
+    ensures { result ≡ sha_256 (head.now ++ body.now) }
 {
-    let mut bytes = [3; 2 + 2 * HASH_LEN];
-    bytes[1] = level;
-    put(&mut bytes, 2, left);
-    put(&mut bytes, 2 + HASH_LEN, right);
+    let mut bytes = [0; N];
+    let all = &mut bytes[..];
+    all[..head.len()].copy_from_slice(head);
+    all[head.len()..].copy_from_slice(body);
     sha256(&bytes)
 }
 
 // A leaf over the ends of a turn's chains.
-pub(crate) fn leaf(turn: u8, ends: &[u8; CHAINS_LEN]) -> [u8; HASH_LEN]
-    ensures { result ≡ leaf turn ends.now }
+pub(crate) fn leaf(turn: u8, ends: &[Hash; CHAINS]) -> Hash
+    ensures { result ≡ leaf turn (flat_map (λ x. x) ends.now) }
 {
-    let mut bytes = [2; 2 + CHAINS_LEN];
-    bytes[1] = turn;
-    bytes[2..2 + CHAINS_LEN].copy_from_slice(ends);
-    sha256(&bytes)
+    hash_of::<LEAF_LEN>(&[2, turn], ends.as_flattened())
+}
+
+// A node over two of a level, the left one first.
+pub(crate) fn node(level: u8, pair: &[Hash; 2]) -> Hash
+    ensures { result ≡ node level (slice_index_or pair.now 0 []) (slice_index_or pair.now 1 []) }
+{
+    hash_of::<NODE_LEN>(&[3, level], pair.as_flattened())
 }

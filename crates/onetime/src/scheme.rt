@@ -7,15 +7,13 @@ ghost use Rattle.schemes.specs.Meaning.{Keeps};
 ghost use Rattle.turns.specs.Refusals.{answer};
 ghost use Rattle.std.proofs.Common.{rules};
 
-use crate::chains::write_chains;
+use crate::chains::chains_at;
 use crate::digits::digits_of;
-use crate::parts::{CHAINS_LEN, HASH_LEN};
+use crate::parts::{CHAINS_LEN, Hash, SIGNATURE_LEN};
 use crate::paths::leads_to;
-use crate::tree::{LEVELS, NODES, ROOT, tree_of, write_path};
+use crate::tree::Tree;
 use schemes::{DIGEST_LEN, Message, PUBLIC_LEN, Pages, Ready, SECRET_LEN, Scheme};
 use turns::Refusal;
-
-const SIGNATURE_LEN: usize = CHAINS_LEN + LEVELS as usize * HASH_LEN;
 
 // The one-time scheme: each turn of a key has a leaf of Winternitz chains, and the public key is the root over them.
 // Of each turn it keeps whether it is spent.
@@ -31,30 +29,22 @@ fn root_of(secret: &[u8]) -> Option<[u8; PUBLIC_LEN]>
     ensures paths { PathsLeadUp }
     ensures accepted { SignaturesAccepted }
 {
-    if secret.len() != SECRET_LEN {
-        return None;
-    }
-    Some(tree_of(secret)[ROOT])
+    let secret = secret.as_array()?;
+    Some(Tree::of(secret).root)
 }
 
-// Writes a signature into the front of a lent buffer, from the nodes of the secret's tree.
-fn write_signature(
-    nodes: &[[u8; HASH_LEN]; NODES],
-    turn: u8,
-    digest: &[u8],
-    secret: &[u8],
-    out: &mut [u8],
-)
+// Writes a signature into the front of a lent buffer, with the tree of the secret.
+fn write_signature(tree: &Tree, turn: u8, digest: &[u8; DIGEST_LEN], secret: &Hash, out: &mut [u8])
     requires low { turn < 32 }
-    requires digest_long { length digest.now ≡ 32 }
-    requires secret_long { length secret.now ≡ 32 }
     requires room { 2304 ≤ length out.old }
-    requires grown { Grown secret.now nodes.now }
+    requires grown { Grown secret.now tree.now }
     ensures front { take 2304 out.new ≡ signature secret.now turn digest.now }
     ensures rest { drop 2304 out.new ≡ drop 2304 out.old }
 {
-    write_chains(turn, &digits_of(digest), secret, out);
-    write_path(nodes, turn, out);
+    let chains = chains_at(turn, &digits_of(digest), secret);
+    let path = tree.path(turn);
+    out[..CHAINS_LEN].copy_from_slice(chains.as_flattened());
+    out[CHAINS_LEN..SIGNATURE_LEN].copy_from_slice(path.as_flattened());
 }
 
 impl OneTime {
@@ -78,20 +68,19 @@ impl OneTime {
         root_of(secret)
     }
 
-    // What a signing is about and the nodes of the secret's tree, if nothing speaks against it.
+    // What a signing is about and the secret's tree, if nothing speaks against it.
     fn clear_to_sign<'d, 's>(
         &self,
         message: &Message<'d>,
         secret: &'s [u8],
         room: usize,
-    ) -> Result<(Ready<'d, 's>, [[u8; HASH_LEN]; NODES]), Refusal>
+    ) -> Result<(Ready<'d, 's>, Tree), Refusal>
         ensures { Cleared self.now message.now.key message.now.turn message.now.digest.now secret.now room result }
     {
         let ready = self.pages.signer(message, secret, SIGNATURE_LEN, room)?;
-        let secret = ready.secret;
-        let nodes = tree_of(secret);
-        ready.clear(&nodes[ROOT], self.pages.at(ready.place))?;
-        Ok((ready, nodes))
+        let tree = Tree::of(ready.secret);
+        ready.clear(&tree.root, self.pages.at(ready.place))?;
+        Ok((ready, tree))
     }
 }
 
@@ -137,19 +126,18 @@ impl Scheme for OneTime {
         ensures buffer { Buffer 2304 result signature.old signature.new }
         ensures bytes { SignatureWritten result secret.now message.now.turn message.now.digest.now signature.new }
     {
-        let (ready, nodes) = self.clear_to_sign(message, secret, signature.len())?;
-        let Ready { digest, secret, .. } = ready;
-        write_signature(&nodes, message.turn, digest, secret, signature);
+        let (ready, tree) = self.clear_to_sign(message, secret, signature.len())?;
+        write_signature(&tree, message.turn, ready.digest, ready.secret, signature);
         self.pages.put(ready.place, true);
         Ok(())
     }
 
     fn check(&self, message: &Message<'_>, signature: &[u8]) -> bool {
-        let (Some(public), Some(_), Ok(digest), Ok(signature)) = (
+        let (Some(public), Some(_), Some(digest), Some(signature)) = (
             self.pages.get(message.key),
             message.place(),
-            <&[u8; DIGEST_LEN]>::try_from(message.digest),
-            <&[u8; SIGNATURE_LEN]>::try_from(signature),
+            message.digest.as_array(),
+            signature.as_array(),
         ) else {
             return false;
         };

@@ -1,62 +1,82 @@
-ghost use Rattle.std.specs.Prelude.{◌≡◌, ℕ, ◌+◌, ◌*◌, ◌<◌, ◌≤◌, [], ◌++◌, length, get_or, take, drop, slice_index_or};
-ghost use Rattle.onetime.specs.Blocks.{joined_to};
+ghost use Rattle.std.specs.Prelude.{◌≡◌, ℕ, List, ◌+◌, ◌*◌, ◌/◌, ◌<◌, ◌^◌, [], length, slice_index_or};
+ghost use Rattle.onetime.specs.Chains.{leaf_of};
 ghost use Rattle.onetime.specs.Hashes.{node};
-ghost use Rattle.onetime.specs.Trees.{Grown, above, beside};
+ghost use Rattle.onetime.specs.Trees.{Grown, beside, sibling};
 
 use crate::chains::leaf_of;
-use crate::parts::{CHAINS_LEN, HASH_LEN, node, put};
+use crate::parts::{Hash, LEVELS, node};
+use schemes::TURNS;
+use std::array;
 
-pub(crate) const LEVELS: u8 = 5;
-
-pub(crate) const LEAVES: usize = 32;
-
-// The root is node 1, and the children of node k are 2k and 2k + 1.
-pub(crate) const ROOT: usize = 1;
-
-pub(crate) const NODES: usize = 64;
-
-// Makes the nodes from number `first` on, as many, of their children at a level.
-fn fill_level(nodes: &mut [[u8; HASH_LEN]; NODES], level: u8, first: usize)
-    requires { first ≤ 16 }
-    ensures made { (k : ℕ) → first ≤ k → k < 2 * first → slice_index_or nodes.new k [] ≡ node level (slice_index_or nodes.old (2 * k) []) (slice_index_or nodes.old (2 * k + 1) []) }
-    ensures kept { (k : ℕ) → 2 * first ≤ k → slice_index_or nodes.new k [] ≡ slice_index_or nodes.old k [] }
-{
-    for k in first..2 * first {
-        nodes[k] = node(level, &nodes[2 * k], &nodes[2 * k + 1]);
-    }
+// All nodes of a secret's tree, level by level from the leaves up.
+#[derive(Drop)]
+pub(crate) struct Tree {
+    leaves: [Hash; TURNS],
+    level_1: [Hash; 16],
+    level_2: [Hash; 8],
+    level_3: [Hash; 4],
+    level_4: [Hash; 2],
+    pub(crate) root: Hash,
 }
 
-// All nodes of a secret's tree, each made once.
-pub(crate) fn tree_of(secret: &[u8]) -> [[u8; HASH_LEN]; NODES]
-    requires { length secret.now ≡ 32 }
-    ensures grown { Grown secret.now result }
-    ensures long { length result ≡ 64 }
+// The N nodes over two of a level each.
+fn nodes_over<const N: usize>(level: u8, below: &[Hash]) -> [Hash; N]
+    requires { length below.now ≡ 2 * N }
+    ensures { (i : ℕ) → i < N → slice_index_or result i [] ≡ node level (slice_index_or below.now (2 * i) []) (slice_index_or below.now (2 * i + 1) []) }
 {
-    let mut nodes = [[0; HASH_LEN]; NODES];
-    for turn in 0..LEAVES {
-        nodes[LEAVES + turn] = leaf_of(turn as u8, secret);
-    }
-    let mut first = LEAVES;
-    for level in 0..LEVELS {
-        first /= 2;
-        fill_level(&mut nodes, level, first);
-    }
-    nodes
+    let (pairs, _) = below.as_chunks::<2>();
+    array::from_fn(
+        |i|
+            requires { i < length pairs.now }
+            ensures { result ≡ node level (slice_index_or (slice_index_or pairs.entry.now i []) 0 []) (slice_index_or (slice_index_or pairs.entry.now i []) 1 []) }
+        { node(level, &pairs[i]) },
+    )
 }
 
-// Writes the siblings of a turn's leaf and of the nodes above it, from the leaf upward, behind the chains.
-pub(crate) fn write_path(nodes: &[[u8; HASH_LEN]; NODES], turn: u8, signature: &mut [u8])
-    requires { (turn < 32) × (2304 ≤ length signature.old) }
-    ensures { signature.new ≡ (take 2144 signature.old ++ joined_to (λ v. get_or nodes.now (beside (above (32 + turn) v)) []) 5) ++ drop 2304 signature.old }
+// The other child of the same parent.
+fn beside(i: u8) -> usize
+    ensures is { result ≡ beside i }
+    ensures near { result / 2 ≡ i / 2 }
 {
-    let mut k = LEAVES + turn as usize;
-    for level in 0..LEVELS {
-        let other = if k % 2 == 0 { k + 1 } else { k - 1 };
-        put(
-            signature,
-            CHAINS_LEN + HASH_LEN * level as usize,
-            &nodes[other],
+    usize::from(if i % 2 == 0 { i + 1 } else { i - 1 })
+}
+
+impl Tree {
+    pub(crate) fn of(secret: &Hash) -> Tree
+        ensures { Grown secret.now result }
+    {
+        let leaves = array::from_fn(
+            |turn|
+                requires { turn < 32 }
+                ensures { result ≡ leaf_of secret.entry.now turn }
+            { leaf_of(turn as u8, secret) },
         );
-        k /= 2;
+        let level_1 = nodes_over(0, &leaves);
+        let level_2 = nodes_over(1, &level_1);
+        let level_3 = nodes_over(2, &level_2);
+        let level_4 = nodes_over(3, &level_3);
+        let root = node(4, &level_4);
+        Tree {
+            leaves,
+            level_1,
+            level_2,
+            level_3,
+            level_4,
+            root,
+        }
+    }
+
+    // The siblings of a turn's leaf and of the nodes above it, from the leaf upward.
+    pub(crate) fn path(&self, turn: u8) -> [Hash; LEVELS]
+        requires { turn < 32 }
+        ensures { (secret : List ℕ) → Grown secret self.now → (level : ℕ) → level < 5 → slice_index_or result level [] ≡ sibling secret turn level }
+    {
+        [
+            self.leaves[beside(turn)],
+            self.level_1[beside(turn / 2)],
+            self.level_2[beside(turn / 4)],
+            self.level_3[beside(turn / 8)],
+            self.level_4[beside(turn / 16)],
+        ]
     }
 }

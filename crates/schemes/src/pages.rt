@@ -47,16 +47,14 @@ impl<T: Copy> Pages<T> {
         ensures answer { result ≡ answer (enrol_refusal 32 (public_of self.old key) key public.now) tt }
         ensures after { Enrolled blank key public.now result self.old self.new }
     {
-        let Ok(public) = <[u8; PUBLIC_LEN]>::try_from(public) else {
-            return Err(refusal(Reason::Argument, key));
-        };
-        let Some(known) = self.publics.get(usize::from(key)) else {
+        let (Some(known), Some(public)) = (self.publics.get(usize::from(key)), public.as_array())
+        else {
             return Err(refusal(Reason::Argument, key));
         };
         if known.is_some() {
             return Err(refusal(Reason::AlreadyEnrolled, key));
         }
-        self.begin_page(key, public, blank);
+        self.begin_page(key, *public, blank);
         Ok(())
     }
 
@@ -87,10 +85,10 @@ impl<T: Copy> Pages<T> {
     ) -> Result<Ready<'d, 's>, Refusal>
         ensures { Signer signature_len (public_of self.now message.now.key) message.now.key message.now.turn message.now.digest.now secret.now room result }
     {
-        let (Some(place), Ok(digest), Ok(secret)) = (
+        let (Some(place), Some(digest), Some(secret)) = (
             message.place(),
-            <&[u8; DIGEST_LEN]>::try_from(message.digest),
-            <&[u8; SECRET_LEN]>::try_from(secret),
+            message.digest.as_array(),
+            secret.as_array(),
         ) else {
             return Err(refusal(Reason::Argument, message.key));
         };

@@ -41,7 +41,7 @@ impl Register {
     pub fn public_key(secret: &[u8]) -> Option<[u8; PUBLIC_LEN]>
         ensures { result ≡ public_key secret.now }
     {
-        let secret = <&[u8; SECRET_LEN]>::try_from(secret).ok()?;
+        let secret = secret.as_array()?;
         Some(commitment(secret))
     }
 
@@ -103,12 +103,9 @@ impl Scheme for Register {
     }
 
     fn check(&self, message: &Message<'_>, signature: &[u8]) -> bool {
-        let (Some(place), Ok(digest)) = (
-            message.place(),
-            <[u8; DIGEST_LEN]>::try_from(message.digest),
-        ) else {
+        let (Some(place), Some(digest)) = (message.place(), message.digest.as_array()) else {
             return false;
         };
-        self.enrolled(message.key) && signature.is_empty() && self.pages.at(place) == Some(digest)
+        self.enrolled(message.key) && signature.is_empty() && self.pages.at(place) == Some(*digest)
     }
 }

@@ -1,31 +1,23 @@
-use Rattle.std.proofs.Common.{◌≡◌, ℕ, ◌+◌, ◌/◌, List, sym, ap, ◌∙◌}
-use Rattle.onetime.specs.Blocks.{hash_at}
-use Rattle.onetime.specs.Trees.{climb, parent}
-use Rattle.onetime.proofs.Siblings.{above_none, above_more, climb_none, climb_more, parent_even, parent_odd}
+use Rattle.std.proofs.Common.{◌≡◌, ℕ, ◌/◌, ◌%◌, ◌^◌, List, [], get_or, sym, ap, ◌∙◌, arith}
+use Rattle.onetime.specs.Hashes.{node}
+use Rattle.onetime.specs.Trees.{above, parent}
+use Rattle.onetime.proofs.Siblings.{above_is, climb_none, climb_more, parent_even, parent_odd}
 use Rattle.onetime.proofs.paths.climb.Goals as goal
-use Rattle.onetime.proofs.paths.climb.Goals.{then-index-eq0, else-index-eq0}
+use Rattle.onetime.proofs.paths.climb.Goals.{then-turn-level-eq0, else-turn-level-eq0}
 
 pub loop-level-init : goal.loop-level-init
-loop-level-init c = (climb_none (λ level. hash_at (67 + level) c.args.signature.now) c.args.turn c.args.bottom, sym (above_none c.args.turn))
+loop-level-init c = climb_none (λ level. get_or c.args.path.now level []) c.args.turn c.args.bottom
 
 pub loop-level-preserved : goal.loop-level-preserved
 loop-level-preserved c =
     let turn = c.args.turn in
     let level = c.loop-level.level in
-    let index = c.loop-level.index in
-    let was = c.loop-level.here in
-    let sibling = c.hash_at-sibling.result in
-    let siblings = λ (v : ℕ). hash_at (67 + v) c.args.signature.now in
-    let inv = c.loop-level.invariant in
-    let here : c.if-index-eq0.here ≡ parent level index was sibling =
-    elim c.if-index-eq0.branch [
-      | then-index-eq0 w ↦ w.here-is ∙ w.node-here.ensures ∙ sym (parent_even level index was sibling w.if-index-eq0.true)
-      | else-index-eq0 w ↦ w.here-is ∙ w.node-here-else-index-eq0.ensures ∙ sym (parent_odd level index was sibling w.if-index-eq0.false)
-    ] in (
-      here
-          ∙ ap (λ (x : List ℕ). parent level index was x) c.hash_at-sibling.ensures
-          ∙ ap (λ (x : List ℕ). parent level index x (siblings level)) inv.0
-          ∙ ap (λ (i : ℕ). parent level i (climb siblings turn c.args.bottom level) (siblings level)) inv.1
-          ∙ sym (climb_more siblings turn c.args.bottom level),
-      ap (λ (n : ℕ). n / 2) inv.1 ∙ sym (above_more turn level),
-    )
+    let here = c.loop-level.here in
+    let siblings = λ (v : ℕ). get_or c.args.path.now v [] in
+    let bit : above turn level % 2 ≡ turn / 2 ^ level % 2 = ap (λ (n : ℕ). n % 2) (above_is turn level) in
+    let made : c.node-here.result ≡ parent level (above turn level) here (siblings level) =
+    elim c.if-turn-level-eq0.branch [
+      | then-turn-level-eq0 w ↦ c.node-here.ensures ∙ ap (λ (p : List (List ℕ)). node level (get_or p 0 []) (get_or p 1 [])) w.pair-is ∙ sym (parent_even level (above turn level) here (siblings level) (omega (arith, bit, w.if-turn-level-eq0.true)))
+      | else-turn-level-eq0 w ↦ c.node-here.ensures ∙ ap (λ (p : List (List ℕ)). node level (get_or p 0 []) (get_or p 1 [])) w.pair-is ∙ sym (parent_odd level (above turn level) here (siblings level) (λ z. absurd (omega (arith, bit, w.if-turn-level-eq0.false))))
+    ] in
+    made ∙ ap (λ (x : List ℕ). parent level (above turn level) x (siblings level)) c.loop-level.invariant ∙ sym (climb_more siblings turn c.args.bottom level)

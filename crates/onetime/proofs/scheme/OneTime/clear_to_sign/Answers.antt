@@ -5,7 +5,6 @@ use Rattle.schemes.specs.Calls.{fits_key}
 use Rattle.schemes.proofs.Ladders.{accepted, fitting, refused, sign_early, sign_found}
 use Rattle.onetime.specs.Meanings.{fits_onetime, onetime_means}
 use Rattle.onetime.specs.Trees.{root}
-use Rattle.onetime.proofs.Levels.{root_stands}
 use Rattle.onetime.proofs.States.{will_accept}
 use Rattle.onetime.proofs.scheme.OneTime.clear_to_sign.Goals as goal
 
@@ -20,7 +19,7 @@ returns-in_err-clear c =
     let p = err_from_is_err_and c.from_residual-in_err-clear.result c.from_residual-in_err-clear.ensures.1 in
     let message = c.args.message.now in
     let ready = c.in_ok-ready.ensures in
-    let top = root_stands _ _ c.tree_of-nodes.ensures.grown ∙ ap root ready.same_secret in
+    let top = c.of-tree.ensures.root ∙ ap root ready.same_secret in
     rw (p.1, p.2)
     (sign_found 2304 fits_onetime (onetime_means c.args.self.now) message.key message.turn message.digest.now c.args.secret.now c.args.room c.in_ok-ready.ready ready
     _ _ (ap (λ (x : List ℕ). bytes_eq x c.in_ok-ready.ready.public) top) (search rules) _ (refused _ _ _ c.in_err-clear.ensures))
@@ -30,7 +29,7 @@ returns c =
     let o = c.args.self.now in
     let message = c.args.message.now in
     let ready = c.in_ok-ready.ensures in
-    let top = root_stands _ _ c.tree_of-nodes.ensures.grown ∙ ap root ready.same_secret in
+    let top = c.of-tree.ensures.root ∙ ap root ready.same_secret in
     let unrefused =
     sign_found 2304 fits_onetime (onetime_means o) message.key message.turn message.digest.now c.args.secret.now c.args.room c.in_ok-ready.ready ready
     _ _ (ap (λ (x : List ℕ). bytes_eq x c.in_ok-ready.ready.public) top) (search rules) _ (accepted _ _ _ c.in_ok-clear.ensures) in
@@ -39,6 +38,6 @@ returns c =
     record {
       ready = ready;
       unrefused = unrefused;
-      grown = rw (sym ready.same_secret) c.tree_of-nodes.ensures.grown;
+      grown = rw ready.same_secret at c.of-tree.ensures;
       accepted = will_accept o message.key message.turn message.digest.now c.args.secret.now _ ready.public_known right low ready.digest_length;
     }
