@@ -1,11 +1,12 @@
 use Rattle.std.proofs.Common.{◌≡◌, ℕ, ◌+◌, ◌*◌, ◌%◌, Bool, true, false, cond, ◌&&◌, eqb, arith}
 use Rattle.std.proofs.lemmas.Bool.{and_parts, eqb-true}
 use Rattle.turns.specs.Proper.{total}
+use Rattle.turns.specs.declared.game.Step.{Step}
 use Rattle.turns.specs.declared.state.Amounts.{Amounts}
-use Rattle.turns.specs.declared.state.Position.{Position}
-use Rattle.games.specs.Boards.{board_lawful, board_stakes}
+use Rattle.games.specs.Boards.{board_lawful, board_shape, board_stakes}
 use Rattle.games.specs.House.{MoneyStays}
-use Rattle.games.specs.Throws.{throws_lawful, throws_stakes}
+use Rattle.games.specs.Stakes.{rounds_lawful}
+use Rattle.games.specs.Throws.{throws_lawful, throws_shape, throws_stakes}
 
 -- what one seat gains the other loses
 one_way : (much a b a' b' : ℕ) → (eqb a' (a + much) && eqb b (b' + much)) ≡ true → a' + b' ≡ a + b
@@ -19,10 +20,13 @@ moved : (even : Bool) (much : ℕ) (x y : Amounts)
 moved true much x y h = one_way much x.seat0 x.seat1 y.seat0 y.seat1 h
 moved false much x y h = let e = one_way much x.seat1 x.seat0 y.seat1 y.seat0 h in omega arith
 
-module _ (code stake turn : ℕ) (before after : Position) where
-  by_game : (b : Bool) → cond b (throws_lawful code stake turn before after) (board_lawful code stake turn before after) ≡ true → total after.amounts ≡ total before.amounts
-  by_game true h = moved (eqb (turn % 2) 0) (throws_stakes before.«data» after.«data» * stake) before.amounts after.amounts (and_parts _ _ h).1
-  by_game false h = moved (eqb (turn % 2) 0) (board_stakes before.«data» after.«data» * stake) before.amounts after.amounts (and_parts _ _ h).1
+module _ (step : Step) where
+  by_rounds : (code : ℕ) (shape : Step → Bool) (stakes : Step → ℕ) → rounds_lawful code shape stakes step ≡ true → total step.after.amounts ≡ total step.before.amounts
+  by_rounds code shape stakes h = moved (eqb (step.turn % 2) 0) (stakes step * step.stake) step.before.amounts step.after.amounts (and_parts _ _ h).1
+
+  by_game : (b : Bool) → cond b (throws_lawful step) (board_lawful step) ≡ true → total step.after.amounts ≡ total step.before.amounts
+  by_game true h = by_rounds 1 throws_shape throws_stakes h
+  by_game false h = by_rounds 2 board_shape board_stakes h
 
 pub money_stays : MoneyStays
-money_stays code stake turn before after h = by_game code stake turn before after (eqb code 1) h
+money_stays step h = by_game step (eqb step.code 1) h

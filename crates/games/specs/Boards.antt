@@ -1,14 +1,22 @@
-use Rattle.std.specs.Prelude.{ℕ, ◌+◌, ◌*◌, Bool, false, cond, ◌&&◌, ◌||◌, List, [], ◌∷◌, ◌==◌, bit_and, count_ones, nat_lt, slice_index}
-use Rattle.std.specs.List.{between}
+use Rattle.std.specs.Prelude.{ℕ, ◌+◌, ◌*◌, Bool, true, false, cond, ◌&&◌, ◌||◌, List, [], ◌∷◌, ◌==◌, bit_and, count_ones, nat_lt, slice_index}
+use Rattle.std.specs.List.{between, list_any}
 use Rattle.turns.specs.Bytes.{all_zero}
-use Rattle.turns.specs.declared.state.Amounts.{Amounts}
-use Rattle.turns.specs.declared.state.Position.{Position}
+use Rattle.turns.specs.declared.game.Step.{Step}
 use Rattle.games.specs.declared.board.Board.{Board}
-use Rattle.games.specs.Stakes.{may_begin, moves}
+use Rattle.games.specs.declared.board.Outcome.{Outcome}
+use Rattle.games.specs.declared.board.Outcome.TheVariants as O
+use Rattle.games.specs.declared.ttt.Phase.{Phase}
+use Rattle.games.specs.declared.ttt.Phase.TheVariants as P
+use Rattle.games.specs.Stakes.{may_begin, rounds_lawful}
 
 -- Tic-Tac-Toe. Phases: 0 no round, 1 a round goes on, 2 it has ended. A mask has bit i where cell i, 0 to 8, is marked.
 abbrev pub phase : List ℕ → ℕ
 phase d = slice_index d 0
+
+abbrev pub phase_number : Phase → ℕ
+phase_number P.Nothing = 0
+phase_number P.GoesOn = 1
+phase_number P.Ended = 2
 
 unfoldable pub board_of : List ℕ → Board
 board_of d = record { crosses = slice_index d 1 * 256 + slice_index d 2; noughts = slice_index d 3 * 256 + slice_index d 4 }
@@ -27,16 +35,16 @@ clean d =
 abbrev pub lines : List ℕ
 lines = 7 ∷ 56 ∷ 448 ∷ 73 ∷ 146 ∷ 292 ∷ 273 ∷ 84 ∷ []
 
-abbrev pub holds_one : List ℕ → ℕ → Bool
-holds_one [] mask = false
-holds_one (l ∷ ls) mask = bit_and mask l == l || holds_one ls mask
-
 unfoldable pub holds_line : ℕ → Bool
-holds_line mask = holds_one lines mask
+holds_line mask = list_any (λ line. bit_and mask line == line) lines
 
 -- crosses move where both have equally many marks
 abbrev pub crosses_move : Board → Bool
 crosses_move x = count_ones x.crosses == count_ones x.noughts
+
+-- the masks of a board: that of the side which is to move on x, and that of the other side
+abbrev pub mover_first : Board → Board → ℕ × ℕ
+mover_first x y = cond (crosses_move x) (y.crosses, y.noughts) (y.noughts, y.crosses)
 
 -- every old mark is kept and there is one more
 abbrev pub one_more : ℕ → ℕ → Bool
@@ -65,24 +73,36 @@ ends x y = wins x y || full y
 unfoldable pub mark_stakes : Board → Board → ℕ
 mark_stakes x y = cond (wins x y) 2 (cond (full y) 1 2)
 
+-- which outcomes end a round, and what a later mark moves with each
+abbrev pub is_end : Outcome → Bool
+is_end O.Line = true
+is_end O.Full = true
+is_end O.GoesOn = false
+
+abbrev pub stakes_of : Outcome → ℕ
+stakes_of O.Line = 2
+stakes_of O.Full = 1
+stakes_of O.GoesOn = 2
+
 -- the right data for a step, apart from what it moves
-abbrev pub board_shape : ℕ → ℕ → Amounts → List ℕ → List ℕ → Bool
-board_shape turn stake have b d =
+abbrev pub board_shape : Step → Bool
+board_shape step =
+    let b = step.before.«data» in
+    let d = step.after.«data» in
     clean b && clean d && legal_board (board_of b) && legal_board (board_of d)
-    && cond (phase b == 0) (phase d == 1 && marks (board_of b) (board_of d) && may_begin turn stake have)
+    && cond (phase b == 0) (phase d == 1 && marks (board_of b) (board_of d) && may_begin step.turn step.stake step.before.amounts)
     (cond (phase b == 1) (marks (board_of b) (board_of d) && phase d == cond (ends (board_of b) (board_of d)) 2 1)
     (phase d == 0))
 
 -- how many stakes a step moves to its mover
-abbrev pub board_stakes : List ℕ → List ℕ → ℕ
-board_stakes b d =
+abbrev pub board_stakes : Step → ℕ
+board_stakes step =
+    let b = step.before.«data» in
+    let d = step.after.«data» in
     cond (phase b == 0) 1
     (cond (phase b == 1) (mark_stakes (board_of b) (board_of d))
     0)
 
 -- what Tic-Tac-Toe allows
-abbrev pub board_lawful : ℕ → ℕ → ℕ → Position → Position → Bool
-board_lawful code stake turn before after =
-    (code == 2)
-    && board_shape turn stake before.amounts before.«data» after.«data»
-    && moves turn (board_stakes before.«data» after.«data» * stake) before.amounts after.amounts
+abbrev pub board_lawful : Step → Bool
+board_lawful = rounds_lawful 2 board_shape board_stakes

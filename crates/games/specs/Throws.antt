@@ -1,16 +1,25 @@
-use Rattle.std.specs.Prelude.{ℕ, ◌+◌, ◌-◌, ◌*◌, ◌%◌, Bool, cond, ◌&&◌, List, ◌∷◌, ◌==◌, slice_index}
+use Rattle.std.specs.Prelude.{ℕ, ◌+◌, ◌-◌, ◌%◌, Bool, cond, ◌&&◌, List, ◌∷◌, ◌==◌, slice_index}
 use Rattle.std.specs.List.{between}
 use Rattle.std.specs.Str.{bytes_eq}
 use Rattle.hash.specs.Sha256.{sha_256}
 use Rattle.turns.specs.Bytes.{all_zero}
 use Rattle.turns.specs.Kinds.{within}
-use Rattle.turns.specs.declared.state.Amounts.{Amounts}
-use Rattle.turns.specs.declared.state.Position.{Position}
-use Rattle.games.specs.Stakes.{may_begin, moves}
+use Rattle.turns.specs.declared.game.Step.{Step}
+use Rattle.games.specs.declared.rps.Phase.{Phase}
+use Rattle.games.specs.declared.rps.Phase.TheVariants as P
+use Rattle.games.specs.declared.rps.Throw.{Throw}
+use Rattle.games.specs.declared.rps.Throw.TheVariants as H
+use Rattle.games.specs.Stakes.{may_begin, rounds_lawful}
 
 -- Rock-Paper-Scissors. Phases: 0 nothing, 1 the first throw is committed to, 2 the second throw is made, 3 the first is shown.
 abbrev pub phase : List ℕ → ℕ
 phase d = slice_index d 0
+
+abbrev pub phase_number : Phase → ℕ
+phase_number P.Nothing = 0
+phase_number P.Committed = 1
+phase_number P.Answered = 2
+phase_number P.Shown = 3
 
 unfoldable pub commitment : List ℕ → List ℕ
 commitment d = between 1 33 d
@@ -28,6 +37,11 @@ salt d = between 35 67 d
 abbrev pub is_throw : ℕ → Bool
 is_throw x = within 1 3 x
 
+abbrev pub throw_number : Throw → ℕ
+throw_number H.Rock = 1
+throw_number H.Paper = 2
+throw_number H.Scissors = 3
+
 -- the phase is one of the game's, and the bytes that it does not use are zero
 unfoldable pub clean : List ℕ → Bool
 clean d =
@@ -41,10 +55,12 @@ unfoldable pub keeps_word : List ℕ → Bool
 keeps_word d = bytes_eq (sha_256 (first_throw d ∷ salt d)) (commitment d)
 
 -- the right data for a step, apart from what it moves
-abbrev pub throws_shape : ℕ → ℕ → Amounts → List ℕ → List ℕ → Bool
-throws_shape turn stake have b d =
+abbrev pub throws_shape : Step → Bool
+throws_shape step =
+    let b = step.before.«data» in
+    let d = step.after.«data» in
     clean b && clean d
-    && cond (phase b == 0) (phase d == 1 && may_begin turn stake have)
+    && cond (phase b == 0) (phase d == 1 && may_begin step.turn step.stake step.before.amounts)
     (cond (phase b == 1) (phase d == 2 && bytes_eq (commitment d) (commitment b) && is_throw (second_throw d))
     (cond (phase b == 2)
     (phase d == 3 && bytes_eq (commitment d) (commitment b) && second_throw d == second_throw b && is_throw (second_throw d) && is_throw (first_throw d) && keeps_word d)
@@ -59,15 +75,14 @@ abbrev pub winnings : ℕ → ℕ
 winnings r = cond (r == 0) 1 (cond (r == 1) 2 0)
 
 -- how many stakes a step moves to its mover
-abbrev pub throws_stakes : List ℕ → List ℕ → ℕ
-throws_stakes b d =
+abbrev pub throws_stakes : Step → ℕ
+throws_stakes step =
+    let b = step.before.«data» in
+    let d = step.after.«data» in
     cond (phase b == 1) 1
     (cond (phase b == 2) (winnings (result (first_throw d) (second_throw d)))
     0)
 
 -- what Rock-Paper-Scissors allows
-abbrev pub throws_lawful : ℕ → ℕ → ℕ → Position → Position → Bool
-throws_lawful code stake turn before after =
-    (code == 1)
-    && throws_shape turn stake before.amounts before.«data» after.«data»
-    && moves turn (throws_stakes before.«data» after.«data» * stake) before.amounts after.amounts
+abbrev pub throws_lawful : Step → Bool
+throws_lawful = rounds_lawful 1 throws_shape throws_stakes

@@ -1,5 +1,5 @@
 ghost use Rattle.std.specs.Prelude.{◌≡◌};
-ghost use Rattle.games.specs.Boards.{legal_board, holds_line, crosses_move, one_more, marks, wins, full, ends, mark_stakes};
+ghost use Rattle.games.specs.Boards.{legal_board, holds_line, mover_first, one_more, marks, wins, full, ends, mark_stakes, is_end, stakes_of};
 
 const CELLS: u32 = 9;
 // a mask is below this
@@ -14,15 +14,40 @@ pub(crate) struct Board {
     pub(crate) noughts: u16,
 }
 
+// What a mark makes of a round.
+#[derive(Clone, Copy)]
+pub(crate) enum Outcome {
+    Line,
+    Full,
+    GoesOn,
+}
+
+impl Outcome {
+    pub(crate) fn ends(self) -> bool
+        ensures { result ≡ is_end self }
+    {
+        match self {
+            Outcome::Line | Outcome::Full => true,
+            Outcome::GoesOn => false,
+        }
+    }
+
+    // How many stakes a later mark moves: one for a draw, else two.
+    pub(crate) fn stakes(self) -> u8
+        ensures { result ≡ stakes_of self }
+    {
+        match self {
+            Outcome::Full => 1,
+            Outcome::Line | Outcome::GoesOn => 2,
+        }
+    }
+}
+
+#[tactic(auto, unfolding(crate::specs::Boards::holds_line))]
 fn holds_line(mask: u16) -> bool
     ensures { result ≡ holds_line mask }
 {
-    for line in LINES {
-        if mask & line == line {
-            return true;
-        }
-    }
-    false
+    LINES.iter().any(|line| mask & line == *line)
 }
 
 // Whether every old mark is kept and there is one more.
@@ -33,38 +58,39 @@ fn one_more(old: u16, new: u16) -> bool
 }
 
 impl Board {
+    #[tactic(auto, unfolding(crate::specs::Boards::legal_board))]
     pub(crate) fn is_legal(&self) -> bool
         ensures { result ≡ legal_board self.now }
     {
         self.crosses < MASKS && self.noughts < MASKS && self.crosses & self.noughts == 0
     }
 
-    fn crosses_move(&self) -> bool
-        ensures { result ≡ crosses_move self.now }
+    // The masks of a board: that of the side which is to move on this one, and that of the other side.
+    fn mover_first(&self, board: &Board) -> (u16, u16)
+        ensures { result ≡ mover_first self.now board.now }
     {
-        self.crosses.count_ones() == self.noughts.count_ones()
+        if self.crosses.count_ones() == self.noughts.count_ones() {
+            (board.crosses, board.noughts)
+        } else {
+            (board.noughts, board.crosses)
+        }
     }
 
     // Whether the side that is to move marks one cell, and the other side none.
+    #[tactic(auto, unfolding(crate::specs::Boards::marks))]
     pub(crate) fn marks_one(&self, after: &Board) -> bool
         ensures { result ≡ marks self.now after.now }
     {
-        if self.crosses_move() {
-            one_more(self.crosses, after.crosses) && self.noughts == after.noughts
-        } else {
-            one_more(self.noughts, after.noughts) && self.crosses == after.crosses
-        }
+        let (old, other) = self.mover_first(self);
+        let (new, other_after) = self.mover_first(after);
+        one_more(old, new) && other == other_after
     }
 
     // Whether the side that moved now holds a line.
     fn is_won(&self, after: &Board) -> bool
         ensures { result ≡ wins self.now after.now }
     {
-        if self.crosses_move() {
-            holds_line(after.crosses)
-        } else {
-            holds_line(after.noughts)
-        }
+        holds_line(self.mover_first(after).0)
     }
 
     fn is_full(&self) -> bool
@@ -73,23 +99,18 @@ impl Board {
         self.crosses.count_ones() + self.noughts.count_ones() == CELLS
     }
 
-    // Whether a mark ends the round.
-    pub(crate) fn ends(&self, after: &Board) -> bool
-        ensures { result ≡ ends self.now after.now }
-    {
-        self.is_won(after) || after.is_full()
-    }
-
-    // How many stakes a later mark moves. A line is looked for first: with one, a full board is no draw.
-    pub(crate) fn mark_stakes(&self, after: &Board) -> u8
-        ensures { result ≡ mark_stakes self.now after.now }
+    // What a mark makes of the round. A line is looked for first: with one, a full board is no draw.
+    #[tactic(auto, unfolding(crate::specs::Boards::ends, crate::specs::Boards::mark_stakes))]
+    pub(crate) fn outcome(&self, after: &Board) -> Outcome
+        ensures ends { is_end result ≡ ends self.now after.now }
+        ensures stakes { stakes_of result ≡ mark_stakes self.now after.now }
     {
         if self.is_won(after) {
-            2
+            Outcome::Line
         } else if after.is_full() {
-            1
+            Outcome::Full
         } else {
-            2
+            Outcome::GoesOn
         }
     }
 }

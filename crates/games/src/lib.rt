@@ -1,9 +1,9 @@
 // The house's games: Rock-Paper-Scissors, Tic-Tac-Toe, and a shelf of two games.
 #![tactic(auto)]
 
-mod begin;
 mod board;
 mod house;
+mod rounds;
 mod rps;
 mod shelf;
 mod ttt;

@@ -1,12 +1,10 @@
-ghost use Rattle.std.specs.Prelude.{◌≡◌, ◌==◌};
-ghost use Rattle.games.specs.Throws.{clean, keeps_word, throws_shape, throws_stakes, throws_lawful, is_throw, commitment};
-ghost use Rattle.std.specs.Str.{bytes_eq};
+ghost use Rattle.std.specs.Prelude.{◌≡◌, ◌<◌, true, false, MatchOption, MatchResult, ◌==◌};
+ghost use Rattle.games.specs.Throws.{phase, phase_number, clean, commitment, keeps_word, throw_number, winnings, result as result_of, is_throw, throws_shape, throws_stakes, throws_lawful};
 
-use crate::begin::{may_begin, moves};
+use crate::rounds::{Rounds, allows, may_begin};
 use hash::sha256;
-use turns::{Amounts, DATA_LEN, Game, Position, all_zero, same_bytes};
+use turns::{DATA_LEN, Game, Step, all_zero, same_bytes};
 
-const CODE: u8 = 1;
 // where the parts lie in a state's data
 const PHASE: usize = 0;
 
@@ -16,82 +14,132 @@ const SECOND: usize = 33;
 
 const FIRST: usize = 34;
 
-fn is_clean(data: &[u8; DATA_LEN]) -> bool
-    ensures { result ≡ clean «data».now }
-{
-    match data[PHASE] {
-        0 => all_zero(&data[COMMITMENT..DATA_LEN]),
-        1 => all_zero(&data[SECOND..DATA_LEN]),
-        2 => all_zero(&data[FIRST..DATA_LEN]),
-        3 => true,
-        _ => false,
+// How far a round of throws has come.
+#[derive(Clone, Copy)]
+enum Phase {
+    Nothing,
+    Committed,
+    Answered,
+    Shown,
+}
+
+impl TryFrom<u8> for Phase {
+    type Error = ();
+
+    ghost try_from_gives = { λ byte r. MatchResult r (λ x. phase_number x ≡ byte) (λ _. 3 < byte) };
+
+    fn try_from(byte: u8) -> Result<Phase, ()> {
+        match byte {
+            0 => Ok(Phase::Nothing),
+            1 => Ok(Phase::Committed),
+            2 => Ok(Phase::Answered),
+            3 => Ok(Phase::Shown),
+            _ => Err(()),
+        }
     }
 }
 
-fn is_throw(byte: u8) -> bool
-    ensures { result ≡ is_throw byte }
+#[derive(Clone, Copy)]
+enum Throw {
+    Rock,
+    Paper,
+    Scissors,
+}
+
+impl TryFrom<u8> for Throw {
+    type Error = ();
+
+    ghost try_from_gives = { λ byte r. MatchResult r (λ x. throw_number x ≡ byte) (λ _. is_throw byte ≡ false) };
+
+    fn try_from(byte: u8) -> Result<Throw, ()> {
+        match byte {
+            1 => Ok(Throw::Rock),
+            2 => Ok(Throw::Paper),
+            3 => Ok(Throw::Scissors),
+            _ => Err(()),
+        }
+    }
+}
+
+impl Throw {
+    // How many stakes the first thrower gets over a second throw: its own back at a tie, both if it wins.
+    fn winnings(self, second: Throw) -> u8
+        ensures { result ≡ winnings (result_of (throw_number self) (throw_number second)) }
+    {
+        match (self, second) {
+            (Throw::Rock, Throw::Rock)
+            | (Throw::Paper, Throw::Paper)
+            | (Throw::Scissors, Throw::Scissors) => 1,
+            (Throw::Rock, Throw::Scissors)
+            | (Throw::Paper, Throw::Rock)
+            | (Throw::Scissors, Throw::Paper) => 2,
+            _ => 0,
+        }
+    }
+}
+
+// The phase of data whose unused bytes are zero.
+#[tactic(auto, unfolding(crate::specs::Throws::clean))]
+fn phase_of(data: &[u8; DATA_LEN]) -> Option<Phase>
+    ensures { MatchOption result (clean «data».now ≡ false) (λ x. (clean «data».now ≡ true) × (phase «data».now ≡ phase_number x)) }
 {
-    1 <= byte && byte <= 3
+    let phase = Phase::try_from(data[PHASE]).ok()?;
+    let unused = match phase {
+        Phase::Nothing => COMMITMENT,
+        Phase::Committed => SECOND,
+        Phase::Answered => FIRST,
+        Phase::Shown => DATA_LEN,
+    };
+    all_zero(&data[unused..]).then_some(phase)
+}
+
+#[tactic(auto, unfolding(crate::specs::Throws::commitment))]
+fn commitment(data: &[u8; DATA_LEN]) -> &[u8]
+    ensures { result.now ≡ commitment «data».now }
+{
+    &data[COMMITMENT..SECOND]
 }
 
 // Whether the first throw and its salt are what was committed to.
 fn keeps_word(data: &[u8; DATA_LEN]) -> bool
     ensures { result ≡ keeps_word «data».now }
 {
-    same_bytes(&sha256(&data[FIRST..DATA_LEN]), &data[COMMITMENT..SECOND])
-}
-
-fn same_commitment(before: &[u8; DATA_LEN], after: &[u8; DATA_LEN]) -> bool
-    ensures { result ≡ bytes_eq (commitment after.now) (commitment before.now) }
-{
-    same_bytes(&after[COMMITMENT..SECOND], &before[COMMITMENT..SECOND])
-}
-
-// Whether a step has the right data, apart from what it moves.
-fn has_shape(
-    turn: u8,
-    stake: u64,
-    have: &Amounts,
-    before: &[u8; DATA_LEN],
-    after: &[u8; DATA_LEN],
-) -> bool
-    ensures { result ≡ throws_shape turn stake have.now before.now after.now }
-{
-    if !is_clean(before) || !is_clean(after) {
-        return false;
-    }
-    match before[PHASE] {
-        0 => after[PHASE] == 1 && may_begin(turn, stake, have),
-        1 => after[PHASE] == 2 && same_commitment(before, after) && is_throw(after[SECOND]),
-        2 => {
-            after[PHASE] == 3
-                && same_commitment(before, after)
-                && after[SECOND] == before[SECOND]
-                && is_throw(after[SECOND])
-                && is_throw(after[FIRST])
-                && keeps_word(after)
-        }
-        _ => after[PHASE] == 0,
-    }
-}
-
-// How many stakes a step moves to its mover: the own one back at a tie, both if the first throw wins.
-fn stakes(before: &[u8; DATA_LEN], after: &[u8; DATA_LEN]) -> u8
-    ensures { result ≡ throws_stakes before.now after.now }
-{
-    match before[PHASE] {
-        1 => 1,
-        2 => match (u16::from(after[FIRST]) + 3).saturating_sub(u16::from(after[SECOND])) % 3 {
-            0 => 1,
-            1 => 2,
-            _ => 0,
-        },
-        _ => 0,
-    }
+    same_bytes(&sha256(&data[FIRST..]), commitment(data))
 }
 
 #[derive(Clone, Copy)]
 pub struct RockPaperScissors;
+
+impl Rounds for RockPaperScissors {
+    const CODE: u8 = 1;
+
+    ghost CODE = { 1 };
+
+    ghost shape = { throws_shape };
+
+    ghost stakes = { throws_stakes };
+
+    fn stakes(step: &Step) -> Option<u8> {
+        let before = &step.before.data;
+        let after = &step.after.data;
+        match (phase_of(before)?, phase_of(after)?) {
+            (Phase::Nothing, Phase::Committed) => may_begin(step).then_some(0),
+            (Phase::Committed, Phase::Answered) => {
+                Throw::try_from(after[SECOND]).ok()?;
+                (commitment(after) == commitment(before)).then_some(1)
+            }
+            (Phase::Answered, Phase::Shown) => {
+                let first = Throw::try_from(after[FIRST]).ok()?;
+                let second = Throw::try_from(after[SECOND]).ok()?;
+                let kept = commitment(after) == commitment(before)
+                    && after[SECOND] == before[SECOND];
+                (kept && keeps_word(after)).then_some(first.winnings(second))
+            }
+            (Phase::Shown, Phase::Nothing) => Some(0),
+            _ => None,
+        }
+    }
+}
 
 impl Game for RockPaperScissors {
     ghost codes = { λ _ code. (code == 1) };
@@ -99,13 +147,10 @@ impl Game for RockPaperScissors {
     ghost lawful = { λ _. throws_lawful };
 
     fn knows(&self, code: u8) -> bool {
-        code == CODE
+        code == Self::CODE
     }
 
-    fn allows(&self, code: u8, stake: u64, turn: u8, before: &Position, after: &Position) -> bool {
-        let moved = stakes(&before.data, &after.data);
-        self.knows(code)
-            && has_shape(turn, stake, &before.amounts, &before.data, &after.data)
-            && moves(turn, stake, moved, &before.amounts, &after.amounts)
+    fn allows(&self, step: &Step) -> bool {
+        allows::<Self>(step)
     }
 }

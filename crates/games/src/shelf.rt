@@ -1,7 +1,7 @@
 ghost use Rattle.std.specs.Prelude.{◌≡◌};
 ghost use Rattle.games.specs.Shelves.{shelf_codes, shelf_lawful};
 
-use turns::{Game, Position};
+use turns::{Game, Step};
 
 // A game made of two: the first answers for the codes that it knows, the second for the rest.
 #[derive(Drop)]
@@ -19,11 +19,11 @@ impl<X: Game + Drop, Y: Game + Drop> Game for Shelf<X, Y> {
         self.first.knows(code) || self.second.knows(code)
     }
 
-    fn allows(&self, code: u8, stake: u64, turn: u8, before: &Position, after: &Position) -> bool {
-        if self.first.knows(code) {
-            self.first.allows(code, stake, turn, before, after)
+    fn allows(&self, step: &Step) -> bool {
+        if self.first.knows(step.code) {
+            self.first.allows(step)
         } else {
-            self.second.allows(code, stake, turn, before, after)
+            self.second.allows(step)
         }
     }
 }

@@ -1,11 +1,10 @@
-ghost use Rattle.std.specs.Prelude.{◌≡◌, ◌==◌};
-ghost use Rattle.games.specs.Boards.{board_of, clean, board_shape, board_stakes, board_lawful};
+ghost use Rattle.std.specs.Prelude.{◌≡◌, ◌<◌, true, false, ◌&&◌, MatchOption, MatchResult, ◌==◌};
+ghost use Rattle.games.specs.Boards.{phase, phase_number, board_of, clean, legal_board, board_shape, board_stakes, board_lawful};
 
-use crate::begin::{may_begin, moves};
 use crate::board::Board;
-use turns::{Amounts, DATA_LEN, Game, Position, all_zero};
+use crate::rounds::{Rounds, allows, may_begin};
+use turns::{DATA_LEN, Game, Step, all_zero};
 
-const CODE: u8 = 2;
 // where the parts lie in a state's data
 const PHASE: usize = 0;
 
@@ -15,16 +14,44 @@ const NOUGHTS: usize = 3;
 
 const UNUSED: usize = 5;
 
-fn is_clean(data: &[u8; DATA_LEN]) -> bool
-    ensures { result ≡ clean «data».now }
-{
-    match data[PHASE] {
-        0 => all_zero(&data[CROSSES..DATA_LEN]),
-        1 | 2 => all_zero(&data[UNUSED..DATA_LEN]),
-        _ => false,
+// How far a round has come.
+#[derive(Clone, Copy, PartialEq, Eq)]
+enum Phase {
+    Nothing,
+    GoesOn,
+    Ended,
+}
+
+impl TryFrom<u8> for Phase {
+    type Error = ();
+
+    ghost try_from_gives = { λ byte r. MatchResult r (λ x. phase_number x ≡ byte) (λ _. 2 < byte) };
+
+    fn try_from(byte: u8) -> Result<Phase, ()> {
+        match byte {
+            0 => Ok(Phase::Nothing),
+            1 => Ok(Phase::GoesOn),
+            2 => Ok(Phase::Ended),
+            _ => Err(()),
+        }
     }
 }
 
+// The phase of data whose unused bytes are zero.
+// Not one generic function with that of throws: the trait of phases, with its ghost members, is longer than both.
+#[tactic(auto, unfolding(crate::specs::Boards::clean))]
+fn phase_of(data: &[u8; DATA_LEN]) -> Option<Phase>
+    ensures { MatchOption result (clean «data».now ≡ false) (λ x. (clean «data».now ≡ true) × (phase «data».now ≡ phase_number x)) }
+{
+    let phase = Phase::try_from(data[PHASE]).ok()?;
+    let unused = match phase {
+        Phase::Nothing => CROSSES,
+        Phase::GoesOn | Phase::Ended => UNUSED,
+    };
+    all_zero(&data[unused..]).then_some(phase)
+}
+
+#[tactic(auto, unfolding(crate::specs::Boards::board_of))]
 fn read_board(data: &[u8; DATA_LEN]) -> Board
     ensures { result ≡ board_of «data».now }
 {
@@ -34,41 +61,56 @@ fn read_board(data: &[u8; DATA_LEN]) -> Board
     }
 }
 
-// Whether a step has the right data, apart from what it moves.
-fn has_shape(
-    turn: u8,
-    stake: u64,
-    have: &Amounts,
-    before: &[u8; DATA_LEN],
-    after: &[u8; DATA_LEN],
-) -> bool
-    ensures { result ≡ board_shape turn stake have.now before.now after.now }
-{
-    let old = read_board(before);
-    let new = read_board(after);
-    if !is_clean(before) || !is_clean(after) || !old.is_legal() || !new.is_legal() {
-        return false;
-    }
-    match before[PHASE] {
-        0 => after[PHASE] == 1 && old.marks_one(&new) && may_begin(turn, stake, have),
-        1 => old.marks_one(&new) && after[PHASE] == if old.ends(&new) { 2 } else { 1 },
-        _ => after[PHASE] == 0,
-    }
+#[derive(Clone, Copy)]
+struct Round {
+    phase: Phase,
+    board: Board,
 }
 
-// How many stakes a step moves to its mover.
-fn stakes(before: &[u8; DATA_LEN], after: &[u8; DATA_LEN]) -> u8
-    ensures { result ≡ board_stakes before.now after.now }
-{
-    match before[PHASE] {
-        0 => 1,
-        1 => read_board(before).mark_stakes(&read_board(after)),
-        _ => 0,
+impl Round {
+    // The round that a state's data hold, if they are clean and the board is legal.
+    fn read(data: &[u8; DATA_LEN]) -> Option<Round>
+        ensures { let good = clean «data».now && legal_board (board_of «data».now) in
+            MatchOption result (good ≡ false) (λ x. (good ≡ true) × (phase «data».now ≡ phase_number x.phase) × (board_of «data».now ≡ x.board)) }
+    {
+        let phase = phase_of(data)?;
+        let board = read_board(data);
+        board.is_legal().then_some(Round { phase, board })
     }
 }
 
 #[derive(Clone, Copy)]
 pub struct TicTacToe;
+
+impl Rounds for TicTacToe {
+    const CODE: u8 = 2;
+
+    ghost CODE = { 2 };
+
+    ghost shape = { board_shape };
+
+    ghost stakes = { board_stakes };
+
+    fn stakes(step: &Step) -> Option<u8> {
+        let before = Round::read(&step.before.data)?;
+        let after = Round::read(&step.after.data)?;
+        let marked = before.board.marks_one(&after.board);
+        match (before.phase, after.phase) {
+            (Phase::Nothing, Phase::GoesOn) => (marked && may_begin(step)).then_some(1),
+            (Phase::GoesOn, phase) => {
+                let outcome = before.board.outcome(&after.board);
+                let right = if outcome.ends() {
+                    Phase::Ended
+                } else {
+                    Phase::GoesOn
+                };
+                (marked && phase == right).then_some(outcome.stakes())
+            }
+            (Phase::Ended, Phase::Nothing) => Some(0),
+            _ => None,
+        }
+    }
+}
 
 impl Game for TicTacToe {
     ghost codes = { λ _ code. (code == 2) };
@@ -76,13 +118,10 @@ impl Game for TicTacToe {
     ghost lawful = { λ _. board_lawful };
 
     fn knows(&self, code: u8) -> bool {
-        code == CODE
+        code == Self::CODE
     }
 
-    fn allows(&self, code: u8, stake: u64, turn: u8, before: &Position, after: &Position) -> bool {
-        let moved = stakes(&before.data, &after.data);
-        self.knows(code)
-            && has_shape(turn, stake, &before.amounts, &before.data, &after.data)
-            && moves(turn, stake, moved, &before.amounts, &after.amounts)
+    fn allows(&self, step: &Step) -> bool {
+        allows::<Self>(step)
     }
 }

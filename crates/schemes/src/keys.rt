@@ -17,13 +17,7 @@ pub fn refusal(reason: Reason, key: u8) -> Refusal
     ensures { result ≡ refuse_key reason key }
 {
     let at_match = if key as usize >= KEYS { NONE } else { key / 2 };
-    Refusal {
-        reason,
-        layer: Layer::Scheme,
-        at_match,
-        seat: NONE,
-        turn: NONE,
-    }
+    Refusal::new(reason, Layer::Scheme, at_match)
 }
 
 // A signing against which nothing but its secret or a spent turn can speak: its place, digest and secret, and the

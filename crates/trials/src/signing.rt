@@ -86,7 +86,7 @@ fn says(
     match answer {
         Ok(()) => Err(Fail::new("let through")),
         Err(refusal) => {
-            assert!(rt; refusal.reason.number() == number && refusal.layer == Layer::Scheme);
+            assert!(rt; u8::from(refusal.reason) == number && refusal.layer == Layer::Scheme);
             assert!(rt; refusal.at_match == at_match && refusal.seat == 255 && refusal.turn == 255);
             Ok(())
         }

@@ -35,7 +35,7 @@ fn says(
     seat: u8,
     turn: u8,
 ) -> Result<(), Fail> {
-    assert!(rt; refusal.reason.number() == number && refusal.layer == layer);
+    assert!(rt; u8::from(refusal.reason) == number && refusal.layer == layer);
     assert!(rt; refusal.at_match == 3 && refusal.seat == seat && refusal.turn == turn);
     Ok(())
 }

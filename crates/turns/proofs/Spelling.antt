@@ -1,23 +1,13 @@
-use Rattle.std.proofs.Common.{◌≡◌, ℕ, zero, suc, ◌+◌, ◌*◌, ◌/◌, ◌%◌, ◌^◌, ◌<◌, List, [], ◌∷◌, ◌++◌, length, take, drop, fold, ap, ◌∙◌, zero-le, mod-eq_of_lt, mul_assoc, add-mul, div-one, arith, lit<, length-append}
+use Rattle.std.proofs.Common.{◌≡◌, ℕ, zero, suc, ◌+◌, ◌*◌, ◌/◌, ◌%◌, ◌^◌, ◌<◌, List, [], ◌∷◌, ◌++◌, drop, replicate, append-nil, fold, ap, ◌∙◌, zero-le, mod-eq_of_lt, mul_assoc, add-mul, div-one, arith, lit<}
 use native.Mathlib.Nat.{pow-succ', pow-le-pow_right}
 use lib.Arith.{mod-mul}
-use Rattle.std.proofs.lemmas.List.{take_at, take_all}
-use lib.Seq.{paste}
+use Rattle.std.proofs.lemmas.List.{take_all}
+use borrow.Rule.Slice.PartMut.{put_mid}
 use Rattle.turns.specs.Bytes.{big_endian}
-use Rattle.turns.specs.Layout.{docket_of, position_of, state_of}
+use Rattle.turns.specs.Kinds.{kind_number}
+use Rattle.turns.specs.Layout.{mark, docket_of, position_of, state_of}
 use Rattle.turns.specs.Written.{spelled, bytes_of, Writable}
 use Rattle.turns.specs.declared.state.State.{State}
-
--- a part that is put behind a known front
-pub put_behind : {ys : List ℕ} (xs front part : List ℕ) (at end : ℕ) → ys ≡ paste xs at part (length part) → length front ≡ at → at + length part ≡ end
-    → take at xs ≡ front → take end ys ≡ front ++ part
-put_behind {ys} xs front part at end is long ends known =
-    let whole = take_all (length part) part (omega arith) in
-    ap (take end) is
-    ∙ take_at (take at xs ++ take (length part) part) (drop (at + length part) xs) end
-    (length-append (take at xs) (take (length part) part) ∙ omega (arith, ap length known, ap length whole))
-    ∙ ap (λ x. x ++ take (length part) part) known
-    ∙ ap (λ x. front ++ x) whole
 
 module _ (n : ℕ) where
   last_byte : n / 1 % 256 ≡ n % 256
@@ -30,6 +20,13 @@ module _ (n : ℕ) where
   pub spelled_8 : (n / 72057594037927936 % 256) ∷ (n / 281474976710656 % 256) ∷ (n / 1099511627776 % 256) ∷ (n / 4294967296 % 256) ∷ (n / 16777216 % 256) ∷ (n / 65536 % 256) ∷ (n / 256 % 256) ∷ (n % 256) ∷ [] ≡ spelled 8 n
   unfolding spelled
   spelled_8 = rw last_byte
+
+-- six parts written one behind another over 96 zeros
+pub written : (s : State) {front docket small seat0 seat1 last : List ℕ} → front ≡ mark → docket ≡ spelled 4 s.docket → small ≡ s.at_match ∷ s.code ∷ s.turn ∷ kind_number s.kind ∷ []
+    → seat0 ≡ spelled 8 s.position.amounts.seat0 → seat1 ≡ spelled 8 s.position.amounts.seat1 → last ≡ s.position.«data»
+    → put_mid 29 67 (put_mid 21 8 (put_mid 13 8 (put_mid 9 4 (put_mid 5 4 (front ++ drop 5 (replicate 96 0)) docket) small) seat0) seat1) last ≡ bytes_of s
+unfolding bytes_of spelled
+written s e1 e2 e3 e4 e5 e6 = rw (e1, e2, e3, e4, e5, e6, append-nil s.position.«data»)
 
 -- bytes that spell a number have its value
 value : (k n a : ℕ) → fold (λ b x. b * 256 + x) a (spelled k n) ≡ a * 256 ^ k + n % 256 ^ k

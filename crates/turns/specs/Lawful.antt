@@ -1,5 +1,6 @@
-use Rattle.std.specs.Prelude.{ℕ, ◌+◌, Bool, true, false, cond, not, ◌&&◌, List, [], ◌∷◌, Option, ◌==◌}
+use Rattle.std.specs.Prelude.{◌+◌, Bool, true, false, cond, not, ◌&&◌, List, [], ◌∷◌, Option, ◌==◌}
 use Rattle.std.specs.Str.{bytes_eq}
+use Rattle.turns.specs.declared.game.Step.{Step}
 use Rattle.turns.specs.declared.layer.Layer.TheVariants as L
 use Rattle.turns.specs.declared.refusal.Reason.TheVariants as R
 use Rattle.turns.specs.declared.refusal.Refusal.{Refusal}
@@ -53,13 +54,18 @@ concludes K.PostFund = false
 concludes K.Game = false
 concludes K.Conclude = true
 
--- `says` is the game's yes-or-no function of code, stake, later turn and positions
-module _ (says : ℕ → ℕ → ℕ → Position → Position → Bool) (terms : Terms) (before after : State) where
+-- what the game is asked about two states
+abbrev pub asked : Terms → State → State → Step
+asked terms before after =
+    record { code = terms.code; stake = terms.stake; turn = after.turn; before = before.position; after = after.position }
+
+-- `says` is the game's yes-or-no function of a step
+module _ (says : Step → Bool) (terms : Terms) (before after : State) where
   -- a step is lawful, apart from its turns
   abbrev pub lawful_kinds : Bool
   lawful_kinds =
       cond (concludes after.kind) (same_position before.position after.position)
-      (cond (game_decides before.kind after.kind) (says terms.code terms.stake after.turn before.position after.position)
+      (cond (game_decides before.kind after.kind) (says (asked terms before after))
       (funding_goes_on before.kind after.kind))
 
   -- a step between two proper states is lawful
@@ -84,8 +90,8 @@ module _ (terms : Terms) (before after : State) where
   next_refusal = first_found (not_next ∷ [])
 
 -- why one state does not follow another by a lawful step
-abbrev pub step_ladder : (ℕ → ℕ → ℕ → Position → Position → Bool) → Terms → State → State → List Rung
+abbrev pub step_ladder : (Step → Bool) → Terms → State → State → List Rung
 step_ladder says terms before after = not_next terms before after ∷ lawful_ladder says terms before after
 
-abbrev pub step_refusal : (ℕ → ℕ → ℕ → Position → Position → Bool) → Terms → State → State → Option Refusal
+abbrev pub step_refusal : (Step → Bool) → Terms → State → State → Option Refusal
 step_refusal says terms before after = first_found (step_ladder says terms before after)

@@ -2,6 +2,7 @@ use Rattle.std.specs.Prelude.{ℕ, Bool, List, [], ◌∷◌, slice_index}
 use Rattle.std.specs.Option.{unwrap_or}
 use Rattle.std.specs.List.{between}
 use Rattle.std.specs.Str.{bytes_eq}
+use Rattle.turns.specs.declared.reading.Parts.{Parts}
 use Rattle.turns.specs.declared.state.Amounts.{Amounts}
 use Rattle.turns.specs.declared.state.Kind.TheVariants as K
 use Rattle.turns.specs.declared.state.Position.{Position}
@@ -41,6 +42,19 @@ module _ (bytes : List ℕ) where
 
   unfoldable pub position_of : Position
   position_of = record { amounts = amounts_of; «data» = data_of }
+
+  -- the parts of 96 bytes
+  abbrev pub parts_of : Parts
+  parts_of =
+      record {
+        mark = between 0 5 bytes;
+        docket = docket_of;
+        at_match = match_of;
+        code = code_of;
+        turn = turn_of;
+        kind = kind_byte;
+        position = position_of;
+      }
 
   -- the state that bytes spell whose kind fits their turn
   abbrev pub state_of : State

@@ -1,18 +1,28 @@
 ghost use Rattle.std.specs.Prelude.{◌≡◌, ℕ, Bool};
-ghost use Rattle.turns.specs.declared.state.Position.{Position};
+ghost use Rattle.turns.specs.declared.game.Step.{Step};
 
 use crate::state::Position;
 
-// The rules of one or more games. What they mean is a set of codes, and one yes-or-no function of the code,
-// the stake, the later turn, and the positions before and after. The two questions always answer that meaning.
+// What a game is asked about: the match's code and stake, the later turn, and the positions before and after.
+#[derive(Clone, Copy, PartialEq, Eq)]
+pub struct Step {
+    pub code: u8,
+    pub stake: u64,
+    pub turn: u8,
+    pub before: Position,
+    pub after: Position,
+}
+
+// The rules of one or more games. What they mean is a set of codes, and one yes-or-no function of a step.
+// The two questions always answer that meaning.
 pub trait Game {
     ghost codes: { Self → ℕ → Bool };
 
-    ghost lawful: { Self → ℕ → ℕ → ℕ → Position → Position → Bool };
+    ghost lawful: { Self → Step → Bool };
 
     fn knows(&self, code: u8) -> bool
         ensures { result ≡ codes self.now code };
 
-    fn allows(&self, code: u8, stake: u64, turn: u8, before: &Position, after: &Position) -> bool
-        ensures { result ≡ lawful self.now code stake turn before.now after.now };
+    fn allows(&self, step: &Step) -> bool
+        ensures { result ≡ lawful self.now step.now };
 }

@@ -1,77 +1,60 @@
 ghost use Rattle.std.specs.Prelude.{◌≡◌};
-ghost use Rattle.turns.specs.Lawful.{next_refusal, lawful_refusal, step_refusal, same_position, same_amounts};
+ghost use Rattle.turns.specs.Lawful.{asked, next_refusal, lawful_refusal, step_refusal};
 ghost use Rattle.turns.specs.Refusals.{blame, answer};
 
-use crate::bytes::same_bytes;
-use crate::game::Game;
+use crate::game::{Game, Step};
 use crate::layer::Layer;
 use crate::refusal::{Reason, Refusal};
-use crate::state::{Amounts, Kind, Position, State, Terms};
-
-impl Amounts {
-    pub(crate) fn same(&self, other: &Amounts) -> bool
-        ensures { result ≡ same_amounts self.now other.now }
-    {
-        self.seat0 == other.seat0 && self.seat1 == other.seat1
-    }
-}
-
-impl Position {
-    pub(crate) fn same(&self, other: &Position) -> bool
-        ensures { result ≡ same_position self.now other.now }
-    {
-        self.amounts.same(&other.amounts) && same_bytes(&self.data, &other.data)
-    }
-}
+use crate::state::{Kind, State, Terms};
 
 impl Terms {
     // A refusal that blames a state by its turn.
     pub fn blame(&self, reason: Reason, layer: Layer, turn: u8) -> Refusal
         ensures { result ≡ blame reason layer self.now.at_match turn }
     {
-        Refusal {
-            reason,
-            layer,
-            at_match: self.at_match,
-            seat: turn % 2,
-            turn,
-        }
+        Refusal::blaming(reason, layer, self.at_match, turn)
     }
 
     // Whether the later turn is one more.
     pub fn next(&self, before: &State, after: &State) -> Result<(), Refusal>
         ensures { result ≡ answer (next_refusal self.now before.now after.now) tt }
     {
-        if u16::from(after.turn) != u16::from(before.turn) + 1 {
+        if before.turn.checked_add(1) != Some(after.turn) {
             return Err(self.blame(Reason::NotNext, Layer::Turns, after.turn));
         }
         Ok(())
+    }
+
+    // What the game is asked about two states.
+    fn asked(&self, before: &State, after: &State) -> Step
+        ensures { result ≡ asked self.now before.now after.now }
+    {
+        Step {
+            code: self.code,
+            stake: self.stake,
+            turn: after.turn,
+            before: before.position,
+            after: after.position,
+        }
     }
 
     // Whether a step is lawful whose later turn is one more.
     pub fn lawful<G: Game>(&self, game: &G, before: &State, after: &State) -> Result<(), Refusal>
         ensures { result ≡ answer (lawful_refusal (G.Game.lawful game.now) self.now before.now after.now) tt }
     {
-        let (layer, fine) = match (before.kind, after.kind) {
-            (_, Kind::Conclude) => (Layer::Turns, before.position.same(&after.position)),
-            (Kind::PreFund, Kind::PreFund | Kind::PostFund) => (Layer::Turns, true),
-            (Kind::PostFund, Kind::PostFund) => (Layer::Turns, true),
-            (Kind::PostFund | Kind::Game, Kind::Game) => (
-                Layer::Game,
-                game.allows(
-                    self.code,
-                    self.stake,
-                    after.turn,
-                    &before.position,
-                    &after.position,
-                ),
-            ),
-            _ => (Layer::Turns, false),
-        };
-        if !fine {
-            return Err(self.blame(Reason::Unlawful, layer, after.turn));
+        match (before.kind, after.kind) {
+            (_, Kind::Conclude) if before.position == after.position => Ok(()),
+            (Kind::PreFund, Kind::PreFund | Kind::PostFund) => Ok(()),
+            (Kind::PostFund, Kind::PostFund) => Ok(()),
+            (Kind::PostFund | Kind::Game, Kind::Game) => {
+                if game.allows(&self.asked(before, after)) {
+                    Ok(())
+                } else {
+                    Err(self.blame(Reason::Unlawful, Layer::Game, after.turn))
+                }
+            }
+            _ => Err(self.blame(Reason::Unlawful, Layer::Turns, after.turn)),
         }
-        Ok(())
     }
 
     // Whether one state follows another by a lawful step.

@@ -14,23 +14,11 @@ pub enum Layer {
     Station = 5,
 }
 
-impl Layer {
-    pub fn number(self) -> u8
-        ensures { result ≡ layer_number self }
-    {
-        self as u8
-    }
+impl From<Layer> for u8 {
+    ghost from_gives = { λ layer n. n ≡ layer_number layer };
 
-    fn words(self) -> &'static str
-        ensures { result.now ≡ layer_words self }
-    {
-        match self {
-            Layer::Game => "game",
-            Layer::Scheme => "scheme",
-            Layer::Turns => "turn rules",
-            Layer::Docket => "docket",
-            Layer::Station => "station",
-        }
+    fn from(layer: Layer) -> u8 {
+        layer as u8
     }
 }
 
@@ -38,6 +26,12 @@ impl fmt::Display for Layer {
     ghost output = { λ x. Some (layer_words x) };
 
     fn fmt<W: fmt::Write>(&self, f: &mut fmt::Formatter<W>) -> fmt::Result {
-        f.write_str(self.words())
+        f.write_str(match self {
+            Layer::Game => "game",
+            Layer::Scheme => "scheme",
+            Layer::Turns => "turn rules",
+            Layer::Docket => "docket",
+            Layer::Station => "station",
+        })
     }
 }

@@ -7,12 +7,6 @@ pub(crate) const DOCKET: usize = 5;
 
 pub(crate) const MATCH: usize = 9;
 
-pub(crate) const CODE: usize = 10;
-
-pub(crate) const TURN: usize = 11;
-
-pub(crate) const KIND: usize = 12;
-
 pub(crate) const AMOUNT_0: usize = 13;
 
 pub(crate) const AMOUNT_1: usize = 21;

@@ -12,7 +12,7 @@ mod state;
 mod writing;
 
 pub use bytes::{all_zero, same_bytes};
-pub use game::Game;
+pub use game::{Game, Step};
 pub use layer::Layer;
 pub use layout::STATE_LEN;
 pub use reading::digest;

@@ -1,13 +1,13 @@
-ghost use Rattle.std.specs.Prelude.{◌≡◌, length};
+ghost use Rattle.std.specs.Prelude.{◌≡◌, ◌≢◌, length, MatchOption};
 ghost use Rattle.hash.specs.Sha256.{sha_256};
-ghost use Rattle.turns.specs.Layout.{marked, docket_of, state_of, position_of};
+ghost use Rattle.turns.specs.Layout.{parts_of, state_of};
 ghost use Rattle.turns.specs.Proper.{proper_refusal, amounts_fit, total};
 ghost use Rattle.turns.specs.Refusals.{refuse, answer};
 
-use crate::bytes::{all_zero, number, same_bytes};
+use crate::bytes::all_zero;
 use crate::layer::Layer;
-use crate::layout::{AMOUNT_0, AMOUNT_1, CODE, DATA, DOCKET, KIND, MARK, MATCH, STATE_LEN, TURN};
-use crate::refusal::{NONE, Reason, Refusal};
+use crate::layout::MARK;
+use crate::refusal::{Reason, Refusal};
 use crate::state::{Amounts, DATA_LEN, Kind, Position, State, Terms};
 use hash::sha256;
 
@@ -18,33 +18,42 @@ pub fn digest(state: &[u8]) -> [u8; 32]
     sha256(state)
 }
 
-// Whether the bytes begin as those of a state do.
-fn is_marked(bytes: &[u8]) -> bool
-    requires { length bytes.now ≡ 96 }
-    ensures { result ≡ marked bytes.now }
-{
-    same_bytes(&bytes[0..DOCKET], &MARK)
+// The parts of a state's bytes, in their order.
+#[derive(Clone, Copy)]
+struct Parts {
+    mark: [u8; 5],
+    docket: u32,
+    at_match: u8,
+    code: u8,
+    turn: u8,
+    kind: u8,
+    position: Position,
 }
 
-fn read_docket(bytes: &[u8]) -> u64
-    requires { length bytes.now ≡ 96 }
-    ensures { result ≡ docket_of bytes.now }
-{
-    number(&bytes[DOCKET..MATCH])
-}
-
-fn read_position(bytes: &[u8]) -> Position
-    requires { length bytes.now ≡ 96 }
-    ensures { result ≡ position_of bytes.now }
-{
-    let mut data = [0; DATA_LEN];
-    data.copy_from_slice(&bytes[DATA..STATE_LEN]);
-    Position {
-        amounts: Amounts {
-            seat0: number(&bytes[AMOUNT_0..AMOUNT_1]),
-            seat1: number(&bytes[AMOUNT_1..DATA]),
-        },
-        data,
+impl Parts {
+    // The parts of 96 bytes.
+    fn of(bytes: &[u8]) -> Option<Parts>
+        ensures { MatchOption result (length bytes.now ≢ 96) (λ parts. (length bytes.now ≡ 96) × (parts ≡ parts_of bytes.now)) }
+    {
+        let (mark, rest) = bytes.split_first_chunk()?;
+        let (docket, rest) = rest.split_first_chunk()?;
+        let ([at_match, code, turn, kind], rest) = rest.split_first_chunk::<4>()?;
+        let (seat0, rest) = rest.split_first_chunk()?;
+        let (seat1, rest) = rest.split_first_chunk()?;
+        let data = <[u8; DATA_LEN]>::try_from(rest).ok()?;
+        let amounts = Amounts {
+            seat0: u64::from_be_bytes(*seat0),
+            seat1: u64::from_be_bytes(*seat1),
+        };
+        Some(Parts {
+            mark: *mark,
+            docket: u32::from_be_bytes(*docket),
+            at_match: *at_match,
+            code: *code,
+            turn: *turn,
+            kind: *kind,
+            position: Position { amounts, data },
+        })
     }
 }
 
@@ -59,13 +68,14 @@ impl Amounts {
 
 impl Terms {
     // Whether amounts and data are such as a state of this kind may have.
+    #[tactic(auto, unfolding(crate::specs::Proper::amounts_fit))]
     fn amounts_fit(&self, kind: Kind, position: &Position) -> bool
         ensures { result ≡ amounts_fit self.now kind position.now }
     {
         position.amounts.sum() == self.dues.sum()
             && match kind {
                 Kind::PreFund | Kind::PostFund => {
-                    position.amounts.same(&self.dues) && all_zero(&position.data)
+                    position.amounts == self.dues && all_zero(&position.data)
                 }
                 Kind::Game | Kind::Conclude => true,
             }
@@ -75,37 +85,31 @@ impl Terms {
     fn refuse(&self, reason: Reason) -> Refusal
         ensures { result ≡ refuse reason Layer.Turns self.now.at_match }
     {
-        Refusal {
-            reason,
-            layer: Layer::Turns,
-            at_match: self.at_match,
-            seat: NONE,
-            turn: NONE,
-        }
+        Refusal::new(reason, Layer::Turns, self.at_match)
     }
 
     // Reads a proper state of this match: one to which no refusal applies.
+    #[tactic(auto, unfolding(crate::specs::Layout::marked))]
     pub fn read(&self, bytes: &[u8]) -> Result<State, Refusal>
         ensures { result ≡ answer (proper_refusal self.now bytes.now) (state_of bytes.now) }
     {
-        if bytes.len() != STATE_LEN {
+        let Some(parts) = Parts::of(bytes) else {
             return Err(self.refuse(Reason::Length));
-        }
-        if !is_marked(bytes) {
+        };
+        if parts.mark != MARK {
             return Err(self.refuse(Reason::Mark));
         }
-        if read_docket(bytes) != u64::from(self.docket)
-            || bytes[MATCH] != self.at_match
-            || bytes[CODE] != self.code
+        if parts.docket != self.docket
+            || parts.at_match != self.at_match
+            || parts.code != self.code
         {
             return Err(self.refuse(Reason::OtherMatch));
         }
-        let turn = bytes[TURN];
-        let Some(kind) = Kind::at(turn, bytes[KIND]) else {
+        let turn = parts.turn;
+        let Some(kind) = Kind::at(turn, parts.kind) else {
             return Err(self.refuse(Reason::Kind));
         };
-        let position = read_position(bytes);
-        if !self.amounts_fit(kind, &position) {
+        if !self.amounts_fit(kind, &parts.position) {
             return Err(self.blame(Reason::Amounts, Layer::Turns, turn));
         }
         Ok(State {
@@ -114,7 +118,7 @@ impl Terms {
             code: self.code,
             turn,
             kind,
-            position,
+            position: parts.position,
         })
     }
 }

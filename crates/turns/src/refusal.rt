@@ -1,8 +1,9 @@
 ghost use Rattle.std.specs.Prelude.{◌≡◌, Some};
-ghost use Rattle.turns.specs.Refusals.{reason_number};
-ghost use Rattle.turns.specs.Words.{reason_words, match_words, blamed_words, refusal_words};
+ghost use Rattle.turns.specs.Refusals.{reason_number, refuse, blame};
+ghost use Rattle.turns.specs.Words.{reason_words, refusal_words};
 
 use crate::layer::Layer;
+use crate::state::Seat;
 use std::fmt;
 
 // Why a call is refused. The number of each is the one that people quote.
@@ -39,17 +40,19 @@ pub enum Reason {
     BeyondKeeper = 35,
 }
 
-impl Reason {
-    pub fn number(self) -> u8
-        ensures { result ≡ reason_number self }
-    {
-        self as u8
-    }
+impl From<Reason> for u8 {
+    ghost from_gives = { λ reason n. n ≡ reason_number reason };
 
-    fn words(self) -> &'static str
-        ensures { result.now ≡ reason_words self }
-    {
-        match self {
+    fn from(reason: Reason) -> u8 {
+        reason as u8
+    }
+}
+
+impl fmt::Display for Reason {
+    ghost output = { λ x. Some (reason_words x) };
+
+    fn fmt<W: fmt::Write>(&self, f: &mut fmt::Formatter<W>) -> fmt::Result {
+        f.write_str(match self {
             Reason::Length => "the state has a wrong length",
             Reason::Mark => "the mark or the version is not that of a state",
             Reason::OtherMatch => "the state is of another docket, match or game",
@@ -79,15 +82,7 @@ impl Reason {
             Reason::NotEnrolled => "the key is not enrolled",
             Reason::ClockBack => "the clock does not go back",
             Reason::BeyondKeeper => "the standing state is beyond what the keeper holds",
-        }
-    }
-}
-
-impl fmt::Display for Reason {
-    ghost output = { λ x. Some (reason_words x) };
-
-    fn fmt<W: fmt::Write>(&self, f: &mut fmt::Formatter<W>) -> fmt::Result {
-        f.write_str(self.words())
+        })
     }
 }
 
@@ -104,36 +99,31 @@ pub struct Refusal {
 
 pub const NONE: u8 = 255;
 
-// The match of a refusal, where there is one.
-#[derive(Drop)]
-struct AtMatch(u8);
-
-impl fmt::Display for AtMatch {
-    ghost output = { λ x. Some (match_words x.0) };
-
-    fn fmt<W: fmt::Write>(&self, f: &mut fmt::Formatter<W>) -> fmt::Result {
-        if self.0 == NONE {
-            return f.write_str("");
+impl Refusal {
+    // A refusal that blames no state.
+    pub fn new(reason: Reason, layer: Layer, at_match: u8) -> Refusal
+        ensures { result ≡ refuse reason layer at_match }
+    {
+        Refusal {
+            reason,
+            layer,
+            at_match,
+            seat: NONE,
+            turn: NONE,
         }
-        let number = self.0;
-        write!(f, ", match {number}")
     }
-}
 
-// The state that a refusal blames, where there is one: its seat and its turn.
-#[derive(Drop)]
-struct Blamed(u8, u8);
-
-impl fmt::Display for Blamed {
-    ghost output = { λ x. Some (blamed_words x.0 x.1) };
-
-    fn fmt<W: fmt::Write>(&self, f: &mut fmt::Formatter<W>) -> fmt::Result {
-        if self.1 == NONE {
-            return f.write_str("");
+    // A refusal that blames a state by its turn, and so its mover.
+    pub fn blaming(reason: Reason, layer: Layer, at_match: u8, turn: u8) -> Refusal
+        ensures { result ≡ blame reason layer at_match turn }
+    {
+        Refusal {
+            reason,
+            layer,
+            at_match,
+            seat: Seat::moving(turn) as u8,
+            turn,
         }
-        let seat = self.0;
-        let turn = self.1;
-        write!(f, ", seat {seat}, turn {turn}")
     }
 }
 
@@ -141,11 +131,21 @@ impl fmt::Display for Refusal {
     ghost output = { λ x. Some (refusal_words x) };
 
     fn fmt<W: fmt::Write>(&self, f: &mut fmt::Formatter<W>) -> fmt::Result {
-        let number = self.reason.number();
-        let reason = self.reason;
-        let layer = self.layer;
-        let at = AtMatch(self.at_match);
-        let blamed = Blamed(self.seat, self.turn);
-        write!(f, "refused {number}: {reason} ({layer}{at}{blamed})")
+        let number = u8::from(self.reason);
+        let Refusal {
+            reason,
+            layer,
+            at_match,
+            seat,
+            turn,
+        } = *self;
+        write!(f, "refused {number}: {reason} ({layer}")?;
+        if at_match != NONE {
+            write!(f, ", match {at_match}")?;
+        }
+        if turn != NONE {
+            write!(f, ", seat {seat}, turn {turn}")?;
+        }
+        f.write_str(")")
     }
 }

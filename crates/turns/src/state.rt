@@ -30,7 +30,7 @@ pub struct Amounts {
 pub const DATA_LEN: usize = 67;
 
 // What a game looks at in a state: the amounts and the game's own data.
-#[derive(Clone, Copy)]
+#[derive(Clone, Copy, PartialEq, Eq)]
 pub struct Position {
     pub amounts: Amounts,
     pub data: [u8; DATA_LEN],
@@ -46,24 +46,8 @@ pub enum Kind {
 }
 
 impl Kind {
-    pub fn number(self) -> u8
-        ensures { result ≡ kind_number self }
-    {
-        self as u8
-    }
-
-    fn words(self) -> &'static str
-        ensures { result.now ≡ kind_words self }
-    {
-        match self {
-            Kind::PreFund => "PreFund",
-            Kind::PostFund => "PostFund",
-            Kind::Game => "Game",
-            Kind::Conclude => "Conclude",
-        }
-    }
-
     // The kind that a byte names at a turn, if it fits that turn.
+    // No `TryFrom<u8>`: with a test of the turn beside it, this one table would be two.
     pub fn at(turn: u8, byte: u8) -> Option<Kind>
         ensures { result ≡ kind_at turn byte }
     {
@@ -77,16 +61,29 @@ impl Kind {
     }
 }
 
+impl From<Kind> for u8 {
+    ghost from_gives = { λ kind n. n ≡ kind_number kind };
+
+    fn from(kind: Kind) -> u8 {
+        kind as u8
+    }
+}
+
 impl fmt::Display for Kind {
     ghost output = { λ x. Some (kind_words x) };
 
     fn fmt<W: fmt::Write>(&self, f: &mut fmt::Formatter<W>) -> fmt::Result {
-        f.pad(self.words())
+        f.pad(match self {
+            Kind::PreFund => "PreFund",
+            Kind::PostFund => "PostFund",
+            Kind::Game => "Game",
+            Kind::Conclude => "Conclude",
+        })
     }
 }
 
 // A state of a match, as its 96 bytes say.
-#[derive(Clone, Copy)]
+#[derive(Clone, Copy, PartialEq, Eq)]
 pub struct State {
     pub docket: u32,
     pub at_match: u8,
@@ -97,7 +94,7 @@ pub struct State {
 }
 
 // What a match fixes at its opening.
-#[derive(Clone, Copy)]
+#[derive(Clone, Copy, PartialEq, Eq)]
 pub struct Terms {
     pub docket: u32,
     pub at_match: u8,

@@ -1,8 +1,7 @@
 use Rattle.std.proofs.Common.{◌≡◌, ℕ, ◌<◌, List, ◌∷◌, length, take, drop, ap, ◌∙◌, arith}
 use Rattle.std.proofs.lemmas.List.{drop_more}
-use Rattle.std.specs.Str.{bytes_eq}
 use Rattle.hash.specs.Sha256.{sha_256}
-use Rattle.games.specs.Throws.{commitment, keeps_word, first_throw, salt}
+use Rattle.games.specs.Throws.{keeps_word, first_throw, salt}
 use Rattle.games.proofs.rps.keeps_word.Goals as goal
 
 -- throw and salt lie side by side
@@ -10,8 +9,9 @@ joined : (d : List ℕ) → 34 < length d → take 33 (drop 34 d) ≡ first_thro
 joined d h = ap (take 33) (drop_more d 34 0 h)
 
 pub returns : goal.returns
-unfolding commitment keeps_word
+unfolding keeps_word
 returns c =
     let d = c.args.«data».now in
     let word = c.sha256.ensures ∙ ap sha_256 (joined d (omega arith)) in
-    c.same_bytes.ensures ∙ ap (λ x. bytes_eq x (commitment d)) word
+    let kept = c.commitment.ensures in
+    cc
