@@ -72,11 +72,11 @@ extended w first t x low high word same =
     ∙ ap (λ k. extend k first) (sym e)
 
 -- one round, with its constant and its word, and a round for each of some pairs of these
-abbrev pub turn : List ℕ → ℕ × ℕ → List ℕ
-turn v p = round p.0 p.1 v
+abbrev pub round_of : List ℕ → ℕ × ℕ → List ℕ
+round_of v p = round p.0 p.1 v
 
-abbrev pub turns : List ℕ → List ℕ × List ℕ → List ℕ
-turns v p = fold turn v (zip p.0 p.1)
+abbrev pub rounds_of : List ℕ → List ℕ × List ℕ → List ℕ
+rounds_of v p = fold round_of v (zip p.0 p.1)
 
 zip_nil : (ks : List ℕ) → zip {X = ℕ} ks [] ≡ []
 zip_nil [] = refl
@@ -88,33 +88,35 @@ zip_split (suc n) [] ws = refl
 zip_split (suc n) (k ∷ ks) (w ∷ ws) = ap (λ ps. (k, w) ∷ ps) (zip_split n ks ws)
 zip_split (suc n) (k ∷ ks) [] = zip_nil (drop n ks)
 
-turns_joined : (n : ℕ) (ks ws v : List ℕ) → length ks ≡ 8 * n → length ws ≡ 8 * n
-    → fold turns v (zip (first_chunks 8 n ks) (first_chunks 8 n ws)) ≡ fold turn v (zip ks ws)
-turns_joined zero [] ws v k w = refl
-turns_joined zero (x ∷ ks) ws v k w = absurd (omega arith)
-turns_joined (suc n) ks ws v k w =
-    turns_joined n (drop 8 ks) (drop 8 ws) (turns v (take 8 ks, take 8 ws)) (simp length-drop (omega arith)) (simp length-drop (omega arith))
-    ∙ sym (fold-append turn v (zip (take 8 ks) (take 8 ws)) (zip (drop 8 ks) (drop 8 ws)))
-    ∙ ap (fold turn v) (zip_split 8 ks ws)
+joined : (n : ℕ) (ks ws v : List ℕ) → length ks ≡ 8 * n → length ws ≡ 8 * n
+    → fold rounds_of v (zip (first_chunks 8 n ks) (first_chunks 8 n ws)) ≡ fold round_of v (zip ks ws)
+joined zero [] ws v k w = refl
+joined zero (x ∷ ks) ws v k w = absurd (omega arith)
+joined (suc n) ks ws v k w =
+    joined n (drop 8 ks) (drop 8 ws) (rounds_of v (take 8 ks, take 8 ws)) (simp length-drop (omega arith)) (simp length-drop (omega arith))
+    ∙ sym (fold-append round_of v (zip (take 8 ks) (take 8 ws)) (zip (drop 8 ks) (drop 8 ws)))
+    ∙ ap (fold round_of v) (zip_split 8 ks ws)
 
-turns_so_far : (w v : List ℕ) (t : ℕ) → t ≤ 64 → length w ≡ 64 → fold turn v (take t (zip round_constants w)) ≡ rounds w t v
+pub rounds_in_eights : (ks ws v : List ℕ) → length ks ≡ 64 → length ws ≡ 64
+    → fold rounds_of v (zip (first_chunks 8 (length ks / 8) ks) (first_chunks 8 (length ws / 8) ws)) ≡ fold round_of v (zip ks ws)
+rounds_in_eights ks ws v k w =
+    let m : length ks / 8 ≡ 8 = omega arith in
+    let n : length ws / 8 ≡ 8 = omega arith in
+    rw (m, n) (joined 8 ks ws v k w)
+
+so_far : (w v : List ℕ) (t : ℕ) → t ≤ 64 → length w ≡ 64 → fold round_of v (take t (zip round_constants w)) ≡ rounds w t v
 unfolding rounds
-turns_so_far w v zero le long = refl
-turns_so_far w v (suc t) le long =
+so_far w v zero le long = refl
+so_far w v (suc t) le long =
     let i : t < length (zip round_constants w) = simp length-zip (omega arith) in
     let j : t < length w = omega arith in
     let le : t ≤ 64 = omega arith in
-    ap (λ k. fold turn v (take k (zip round_constants w))) (sym (add-one t))
-    ∙ fold_more turn v (zip round_constants w) t (0, 0) i
-    ∙ ap (turn (fold turn v (take t (zip round_constants w)))) (get_or-zip round_constants w t (0, 0) (omega arith) j)
-    ∙ ap (round (get_or round_constants t 0) (get_or w t 0)) (turns_so_far w v t le long)
+    ap (λ k. fold round_of v (take k (zip round_constants w))) (sym (add-one t))
+    ∙ fold_more round_of v (zip round_constants w) t (0, 0) i
+    ∙ ap (round_of (fold round_of v (take t (zip round_constants w)))) (get_or-zip round_constants w t (0, 0) (omega arith) j)
+    ∙ ap (round (get_or round_constants t 0) (get_or w t 0)) (so_far w v t le long)
 
-pub rounds_in_eights : (w v : List ℕ) → length w ≡ 64
-    → fold turns v (zip (first_chunks 8 8 round_constants) (first_chunks 8 (length w / 8) w)) ≡ rounds w 64 v
-rounds_in_eights w v long =
-    let n : length w / 8 ≡ 8 = omega arith in
+pub rounds_in_pairs : (w v : List ℕ) → length w ≡ 64 → fold round_of v (zip round_constants w) ≡ rounds w 64 v
+rounds_in_pairs w v long =
     let le : length (zip round_constants w) ≤ 64 = simp length-zip (omega arith) in
-    ap (λ k. fold turns v (zip (first_chunks 8 8 round_constants) (first_chunks 8 k w))) n
-    ∙ turns_joined 8 round_constants w v refl long
-    ∙ ap (fold turn v) (sym (take_all 64 (zip round_constants w) le))
-    ∙ turns_so_far w v 64 (omega arith) long
+    ap (fold round_of v) (sym (take_all 64 (zip round_constants w) le)) ∙ so_far w v 64 (omega arith) long

@@ -1,6 +1,6 @@
 ghost use Rattle.std.specs.Prelude.{◌≡◌, ◌<◌, take, fold};
 ghost use Rattle.std.specs.List.{zip};
-ghost use Rattle.hash.specs.Sha256.{add, compress, words, schedule, sigma_0, sigma_1, round, rounds, sums};
+ghost use Rattle.hash.specs.Sha256.{add, compress, words, schedule, sigma_0, sigma_1, round, sums};
 
 use crate::tables::ROUND_CONSTANTS;
 use crate::words::*;
@@ -69,13 +69,13 @@ fn eight_rounds(v: [u32; 8], given: (&[u32; 8], &[u32; 8])) -> [u32; 8]
         .fold(v, one_round)
 }
 
-// Eight at a time, since the compiler unrolls a loop of eight and none of 64.
-fn all_rounds(w: &[u32; 64], value: [u32; 8]) -> [u32; 8]
-    ensures { result ≡ rounds w.now 64 value }
+// All rounds, eight at a time: the compiler unrolls a loop of eight, and none of 64.
+fn all_rounds(v: [u32; 8], ks: &[u32; 64], ws: &[u32; 64]) -> [u32; 8]
+    ensures { result ≡ fold (λ v p. round p.0 p.1 v) v (zip ks.now ws.now) }
 {
-    let (ks, _) = ROUND_CONSTANTS.as_chunks::<8>();
-    let (ws, _) = w.as_chunks::<8>();
-    ks.iter().zip(ws).fold(value, eight_rounds)
+    let (ks, _) = ks.as_chunks::<8>();
+    let (ws, _) = ws.as_chunks::<8>();
+    ks.iter().zip(ws).fold(v, eight_rounds)
 }
 
 fn added(u: [u32; 8], v: [u32; 8]) -> [u32; 8]
@@ -89,11 +89,11 @@ fn added(u: [u32; 8], v: [u32; 8]) -> [u32; 8]
 }
 
 // The hash value after one block.
-#[tactic(auto, unfolding(crate::specs::Sha256::compress))]
+#[tactic(auto, using(crate::proofs::Steps::rounds_in_pairs), unfolding(crate::specs::Sha256::compress))]
 pub(crate) fn after_block(value: [u32; 8], block: &[u8; BLOCK]) -> [u32; 8]
     ensures { result ≡ compress value block.now }
 {
-    added(value, all_rounds(&schedule(block), value))
+    added(value, all_rounds(value, &ROUND_CONSTANTS, &schedule(block)))
 }
 
 // The hash value after some blocks.
