@@ -1,15 +1,30 @@
 -- The hash value of a message that is joined of two, and what stays past its whole blocks.
-use Rattle.std.proofs.Common.{◌≡◌, ℕ, zero, suc, ◌+◌, ◌-◌, ◌*◌, ◌/◌, ◌%◌, ◌<◌, ◌≤◌, List, [], ◌++◌, length, take, drop, sym, refl, ap, ◌∙◌, add-zero, add-suc, arith, length-append, length-drop, take-append-drop}
+use Rattle.std.proofs.Common.{◌≡◌, ℕ, zero, suc, ◌+◌, ◌*◌, ◌/◌, ◌%◌, ◌<◌, ◌≤◌, List, [], ◌++◌, length, take, drop, sym, refl, ap, ◌∙◌, add-zero, add-suc, arith, length-append, length-drop, take-append-drop, fold, add-one}
+use Rattle.std.specs.Simd.{first_chunks}
 use Rattle.std.proofs.lemmas.List.{append_assoc, take-append-le, drop-append-le, drop-drop, drop_at, drop_all, take_all, length-take-le}
 use Rattle.hash.specs.Sha256.{compress, chain, chained, block}
 use Rattle.hash.specs.Streaming.{tail}
-use Rattle.hash.proofs.Steps.{chain_none, chain_more}
 
-pub chain_step : (h v m : List ℕ) (n : ℕ) (r : List ℕ) → v ≡ chain h n m → r ≡ compress v (take (64 * n + 64 - 64 * n) (drop (64 * n) m))
-    → r ≡ chain h (n + 1) m
-chain_step h v m n r before now =
-    let e : 64 * n + 64 - 64 * n ≡ 64 = omega arith in
-    (rw e at now) ∙ ap (λ x. compress x (block n m)) before ∙ sym (chain_more h n m)
+chain_more : (h : List ℕ) (n : ℕ) (m : List ℕ) → chain h (n + 1) m ≡ compress (chain h n m) (block n m)
+chain_more h n m = rw add-one
+
+-- the first block stands before the others
+chain_shift : (h m : List ℕ) (n : ℕ) → chain (compress h (take 64 m)) n (drop 64 m) ≡ chain h (suc n) m
+chain_shift h m zero = refl
+chain_shift h m (suc n) =
+    let s : 64 + 64 * n ≡ 64 * suc n = omega arith in
+    ap (λ x. compress x (block n (drop 64 m))) (chain_shift h m n)
+    ∙ ap (λ x. compress (chain h (suc n) m) (take 64 x)) (drop-drop (64 * n) 64 m ∙ ap (λ k. drop k m) s)
+
+chain_of_blocks : (h m : List ℕ) (n : ℕ) → fold compress h (first_chunks 64 n m) ≡ chain h n m
+chain_of_blocks h m zero = refl
+chain_of_blocks h m (suc n) = chain_of_blocks (compress h (take 64 m)) (drop 64 m) n ∙ chain_shift h m n
+
+pub chained_blocks : (h m : List ℕ) (blocks : List (List ℕ)) → blocks ≡ first_chunks 64 (length m / 64) m → fold compress h blocks ≡ chained h m
+chained_blocks h m blocks e = ap (fold compress h) e ∙ chain_of_blocks h m (length m / 64)
+
+pub tail_is : (m : List ℕ) → drop (length m / 64 * 64) m ≡ tail m
+tail_is m = let e : length m / 64 * 64 ≡ 64 * (length m / 64) = omega arith in rw e
 
 -- the first n blocks are those of the front
 chain_front : (h a b : List ℕ) (n : ℕ) → 64 * n ≤ length a → chain h n (a ++ b) ≡ chain h n a
@@ -70,22 +85,23 @@ module _ (m b : List ℕ) where
 
 -- less than a block
 pub chained_short : (h m : List ℕ) → length m < 64 → chained h m ≡ h
-chained_short h m lt =
-    let e : length m / 64 ≡ 0 = omega arith in
-    rw e (chain_none h m)
+chained_short h m lt = let e : length m / 64 ≡ 0 = omega arith in rw e
 
 pub tail_short : (m : List ℕ) → length m < 64 → tail m ≡ m
-tail_short m lt =
-    let e : 64 * (length m / 64) ≡ 0 = omega arith in
-    rw e
+tail_short m lt = let e : 64 * (length m / 64) ≡ 0 = omega arith in rw e
 
--- one block
-pub chained_one : (h m : List ℕ) → length m ≡ 64 → chained h m ≡ compress h m
-chained_one h m e =
-    let q : length m / 64 ≡ 1 = omega arith in
-    let le : length m ≤ 64 = omega arith in
-    ap (λ k. chain h k m) q ∙ chain_more h 0 m ∙ ap (λ x. compress x (take 64 m)) (chain_none h m) ∙ ap (compress h) (take_all 64 m le)
+-- a block, and what follows
+module _ (a b : List ℕ) (whole : length a ≡ 64) where
+  none : tail a ≡ []
+  none = drop_all (64 * (length a / 64)) a (omega arith)
 
--- whole blocks
-pub tail_none : (m : List ℕ) → length m % 64 ≡ 0 → tail m ≡ []
-tail_none m e = drop_all (64 * (length m / 64)) m (omega arith)
+  pub chained_past_block : (h : List ℕ) → chained h (a ++ b) ≡ chained (compress h a) b
+  chained_past_block h =
+      let q : length a / 64 ≡ 1 = omega arith in
+      let le : length a ≤ 64 = omega arith in
+      chained_more a b h
+      ∙ ap (λ x. chained (chained h a) (x ++ b)) none
+      ∙ ap (λ x. chained x b) (ap (λ k. chain h k a) q ∙ ap (compress h) (take_all 64 a le))
+
+  pub tail_past_block : tail (a ++ b) ≡ tail b
+  tail_past_block = tail_more a b ∙ ap (λ x. tail (x ++ b)) none

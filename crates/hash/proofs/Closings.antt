@@ -1,45 +1,46 @@
 -- The last blocks of a message, and the bytes of its digest.
-use Rattle.std.proofs.Common.{◌≡◌, ℕ, suc, ◌+◌, ◌-◌, ◌*◌, ◌/◌, ◌%◌, ◌^◌, ◌<◌, ◌≤◌, List, [], ◌∷◌, ◌++◌, length, get_or, take, drop, set, replicate, sym, refl, ap, ◌∙◌, suc-add, zero-add, div-one, arith, length-append, length-drop, length-take}
+use Rattle.std.proofs.Common.{◌≡◌, ℕ, suc, ◌+◌, ◌-◌, ◌*◌, ◌/◌, ◌%◌, ◌^◌, ◌<◌, ◌≤◌, List, [], ◌∷◌, ◌++◌, length, get_or, take, drop, set, replicate, sym, refl, ap, ◌∙◌, div-one, w32, w64, arith, length-append}
+use Rattle.std.specs.Int.{to_be_bytes}
 use borrow.Rule.Slice.PartMut.{put_mid, post_of}
+use Rattle.std.proofs.Math.Seq.{take-append-add}
 use Rattle.std.proofs.lemmas.List.{append_assoc, append-nil, drop-replicate, take-replicate, set_at, take_more, length-replicate}
 use Rattle.std.proofs.lemmas.Slice.{take-put_mid}
 use Rattle.hash.specs.Sha256.{big_endian, digest, padding, zeros}
 
-zeros_past : (k n : ℕ) → k < n → drop {A = ℕ} (k - 0) (replicate n 0) ≡ 0 ∷ replicate (n - 1 - k) 0
+zeros_past : (k n : ℕ) → k < n → drop {A = ℕ} k (replicate n 0) ≡ 0 ∷ replicate (n - 1 - k) 0
 zeros_past k n lt =
-    let z : k - 0 ≡ k = omega arith in
     let s : n - k ≡ suc (n - 1 - k) = omega arith in
-    rw (z, drop-replicate, s)
+    rw (drop-replicate, s)
 
-pub marked_is : (n : ℕ) (rest ys : List ℕ) → ys ≡ rest → length rest < n
-    → set (ys ++ post_of 0 (length rest - 0) (replicate n 0)) (length rest) 128 ≡ rest ++ 128 ∷ replicate (n - 1 - length rest) 0
+marked_is : (n : ℕ) (rest ys : List ℕ) → ys ≡ rest → length rest < n
+    → set (ys ++ post_of 0 (length rest) (replicate n 0)) (length rest) 128 ≡ rest ++ 128 ∷ replicate (n - 1 - length rest) 0
 marked_is n rest ys same lt =
-    ap (λ y. set (y ++ post_of 0 (length rest - 0) (replicate n 0)) (length rest) 128) same
+    ap (λ y. set (y ++ post_of 0 (length rest) (replicate n 0)) (length rest) 128) same
     ∙ ap (λ t. set (rest ++ t) (length rest) 128) (zeros_past (length rest) n lt)
     ∙ set_at rest 0 (replicate (n - 1 - length rest) 0) 128 (length rest) refl
 
-take_past : (xs ys : List ℕ) (n : ℕ) → take (length xs + n) (xs ++ ys) ≡ xs ++ take n ys
-take_past [] ys n = rw zero-add
-take_past (x ∷ xs) ys n = rw suc-add (ap (λ t. x ∷ t) (take_past xs ys n))
-
-pub eight_bytes : (x : ℕ) → big_endian 8 x
+eight_bytes : (x : ℕ) → big_endian 8 x
     ≡ (x / 72057594037927936 % 256) ∷ (x / 281474976710656 % 256) ∷ (x / 1099511627776 % 256) ∷ (x / 4294967296 % 256) ∷ (x / 16777216 % 256)
     ∷ (x / 65536 % 256) ∷ (x / 256 % 256) ∷ (x % 256) ∷ []
 unfolding big_endian
 eight_bytes x = simp div-one
 
-pub four_bytes : (x : ℕ) → big_endian 4 x ≡ (x / 16777216 % 256) ∷ (x / 65536 % 256) ∷ (x / 256 % 256) ∷ (x % 256) ∷ []
+four_bytes : (x : ℕ) → big_endian 4 x ≡ (x / 16777216 % 256) ∷ (x / 65536 % 256) ∷ (x / 256 % 256) ∷ (x % 256) ∷ []
 unfolding big_endian
 four_bytes x = simp div-one
 
-pub closed_is : (rest last ys : List ℕ) (count end : ℕ) → length rest ≡ count % 64 → end ≡ length rest + 9 + zeros (length rest)
-    → last ≡ rest ++ 128 ∷ replicate (127 - length rest) 0 → ys ≡ big_endian 8 (count * 8 % 2 ^ 64) → length ys ≡ 8
-    → take (length rest + 9 + zeros (length rest)) (put_mid (end - 8) (end - (end - 8)) last ys) ≡ rest ++ padding count
+pub closed_is : (rest : List ℕ) (count end : ℕ) (ys zs : List ℕ) → length rest ≡ count % 64 → end ≡ length rest + 9 + zeros (length rest)
+    → ys ≡ rest → zs ≡ to_be_bytes w64 (count * 8 % 2 ^ 64)
+    → take end (put_mid (end - 8) (end - (end - 8)) (set (ys ++ post_of 0 (length rest) (replicate 128 0)) (length rest) 128) zs) ≡ rest ++ padding count
 unfolding padding
-closed_is rest last ys count end fill far marked bytes eight =
+closed_is rest count end ys zs fill far same bytes =
     let z : zeros (length rest) ≡ zeros count = omega arith in
     let a : end - 8 ≡ length rest + suc (zeros count) = omega arith in
-    let n : length rest + 9 + zeros (length rest) ≡ end - 8 + length ys = omega arith in
+    let eight = ap length bytes in
+    let n : end ≡ end - 8 + length zs = omega arith in
+    let lt : length rest < 128 = omega arith in
+    let marked = marked_is 128 rest ys same lt in
+    let last = set (ys ++ post_of 0 (length rest) (replicate 128 0)) (length rest) 128 in
     let l : length last ≡ 128 = ap length marked ∙ simp (length-append, length-replicate) (omega arith) in
     let le : end - 8 ≤ length last = omega arith in
     let few : zeros count ≤ 127 - length rest = omega arith in
@@ -47,28 +48,26 @@ closed_is rest last ys count end fill far marked bytes eight =
     let front : take (end - 8) last ≡ rest ++ 128 ∷ replicate (zeros count) 0 =
     ap (take (end - 8)) marked
     ∙ ap (λ k. take k (rest ++ 128 ∷ replicate (127 - length rest) 0)) a
-    ∙ take_past rest (128 ∷ replicate (127 - length rest) 0) (suc (zeros count))
+    ∙ take-append-add rest (128 ∷ replicate (127 - length rest) 0) (suc (zeros count))
     ∙ ap (λ t. rest ++ 128 ∷ t) (take-replicate (zeros count) (127 - length rest) 0 few) in
-    take-put_mid (end - 8) (end - (end - 8)) last ys (length rest + 9 + zeros (length rest)) n le
-    ∙ ap (λ t. t ++ ys) front
-    ∙ append_assoc rest (128 ∷ replicate (zeros count) 0) ys
-    ∙ ap (λ t. rest ++ 128 ∷ (replicate (zeros count) 0 ++ t)) (bytes ∙ ap (big_endian 8) times)
+    take-put_mid (end - 8) (end - (end - 8)) last zs end n le
+    ∙ ap (λ t. t ++ zs) front
+    ∙ append_assoc rest (128 ∷ replicate (zeros count) 0) zs
+    ∙ ap (λ t. rest ++ 128 ∷ (replicate (zeros count) 0 ++ t)) (bytes ∙ sym (eight_bytes (count * 8 % 2 ^ 64)) ∙ ap (big_endian 8) times)
 
 digest_push : (xs : List ℕ) (x : ℕ) → digest (xs ++ x ∷ []) ≡ digest xs ++ big_endian 4 x
 unfolding digest
 digest_push [] x = append-nil (big_endian 4 x)
 digest_push (y ∷ xs) x = ap (λ t. big_endian 4 y ++ t) (digest_push xs x) ∙ sym (append_assoc (big_endian 4 y) (digest xs) (big_endian 4 x))
 
-pub digest_step : (out value ys : List ℕ) (i : ℕ) → i < length value → 4 * i ≤ length out → ys ≡ big_endian 4 (get_or value i 0) → length ys ≡ 4
+pub digest_step : (out value ys : List ℕ) (i : ℕ) → i < length value → 4 * i ≤ length out → ys ≡ to_be_bytes w32 (get_or value i 0)
     → take (4 * i) out ≡ digest (take i value)
     → take (4 * (i + 1)) (put_mid (4 * i) (4 * i + 4 - 4 * i) out ys) ≡ digest (take (i + 1) value)
-digest_step out value ys i lt le bytes four before =
+digest_step out value ys i lt le bytes before =
+    let four = ap length bytes in
     let n : 4 * (i + 1) ≡ 4 * i + length ys = omega arith in
     take-put_mid (4 * i) (4 * i + 4 - 4 * i) out ys (4 * (i + 1)) n le
     ∙ ap (λ t. t ++ ys) before
-    ∙ ap (λ t. digest (take i value) ++ t) bytes
+    ∙ ap (λ t. digest (take i value) ++ t) (bytes ∙ sym (four_bytes (get_or value i 0)))
     ∙ sym (digest_push (take i value) (get_or value i 0))
     ∙ ap digest (sym (take_more value i 0 lt))
-
-pub length-put_mid : (a k : ℕ) (xs ys : List ℕ) → a + k ≤ length xs → length ys ≡ k → length (put_mid a k xs ys) ≡ length xs
-length-put_mid a k xs ys le e = simp (length-append, length-take, length-drop) (omega arith)

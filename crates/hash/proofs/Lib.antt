@@ -1,5 +1,5 @@
 mod Steps
 mod Chains
 mod Closings
-mod Streams
 mod Roots
+mod Streams

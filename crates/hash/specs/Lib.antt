@@ -1,4 +1,3 @@
 pub mod Sha256
-pub mod Progress
 pub mod Streaming
 pub mod Roots

@@ -1,12 +1,11 @@
-ghost use Rattle.std.specs.Prelude.{◌≡◌, ◌<◌, slice_index};
-ghost use Rattle.hash.specs.Roots.{InitialWord, RoundConstant, RootBits, prime_at};
-ghost use Rattle.hash.specs.Sha256.{round_constants, start};
+ghost use Rattle.std.specs.Prelude.{◌≡◌, ◌<◌, ◌≤◌, slice_index, MatchOption};
+ghost use Rattle.hash.specs.Roots.{InitialWord, RoundConstant};
 
-const INITIAL: [u32; 8] = [
+pub(crate) const INITIAL: [u32; 8] = [
     0x6a09e667, 0xbb67ae85, 0x3c6ef372, 0xa54ff53a, 0x510e527f, 0x9b05688c, 0x1f83d9ab, 0x5be0cd19,
 ];
 
-const ROUND_CONSTANTS: [u32; 64] = [
+pub(crate) const ROUND_CONSTANTS: [u32; 64] = [
     0x428a2f98, 0x71374491, 0xb5c0fbcf, 0xe9b5dba5, 0x3956c25b, 0x59f111f1, 0x923f82a4, 0xab1c5ed5,
     0xd807aa98, 0x12835b01, 0x243185be, 0x550c7dc3, 0x72be5d74, 0x80deb1fe, 0x9bdc06a7, 0xc19bf174,
     0xe49b69c1, 0xefbe4786, 0x0fc19dc6, 0x240ca1cc, 0x2de92c6f, 0x4a7484aa, 0x5cb0a9dc, 0x76f988da,
@@ -17,55 +16,25 @@ const ROUND_CONSTANTS: [u32; 64] = [
     0x748f82ee, 0x78a5636f, 0x84c87814, 0x8cc70208, 0x90befffa, 0xa4506ceb, 0xbef9a3f7, 0xc67178f2,
 ];
 
-pub(crate) fn constant_at(t: usize) -> u32
-    requires { t < 64 }
-    ensures { result ≡ slice_index round_constants t }
+// The entry of a table at i, if it has one.
+fn entry<const N: usize>(table: &[u32; N], i: u8) -> Option<u32>
+    ensures { MatchOption result (N ≤ i) (λ x. (i < N) × (x ≡ slice_index table.now i)) }
 {
-    ROUND_CONSTANTS[t]
-}
-
-pub(crate) fn initial_value() -> [u32; 8]
-    ensures { result ≡ start }
-{
-    INITIAL
-}
-
-// Constant t, which meets the standard's rule.
-fn rooted_constant(t: usize) -> u32
-    requires { t < 64 }
-    ensures entry { result ≡ slice_index round_constants t }
-    ensures root { RootBits 3 (prime_at t) result }
-{
-    constant_at(t)
-}
-
-// Starting word i, which meets the standard's rule.
-fn rooted_initial(i: usize) -> u32
-    requires { i < 8 }
-    ensures entry { result ≡ slice_index start i }
-    ensures root { RootBits 2 (prime_at i) result }
-{
-    INITIAL[i]
+    table.get(usize::from(i)).copied()
 }
 
 // The constant of round t, of which there are 64.
+#[tactic(auto, using(crate::proofs::Roots::round_constants_stand))]
 pub fn round_constant(t: u8) -> Option<u32>
     ensures { RoundConstant t result }
 {
-    if t < 64 {
-        Some(rooted_constant(t as usize))
-    } else {
-        None
-    }
+    entry(&ROUND_CONSTANTS, t)
 }
 
 // Word i of the starting value, which has eight.
+#[tactic(auto, using(crate::proofs::Roots::start_stands))]
 pub fn initial_word(i: u8) -> Option<u32>
     ensures { InitialWord i result }
 {
-    if i < 8 {
-        Some(rooted_initial(i as usize))
-    } else {
-        None
-    }
+    entry(&INITIAL, i)
 }

@@ -1,7 +1,0 @@
-use Rattle.std.proofs.Common.{refl}
-use Rattle.hash.specs.Sha256.{maj}
-use Rattle.hash.proofs.words.majority.Goals as goal
-
-pub returns : goal.returns
-unfolding maj
-returns c = refl
