@@ -6,8 +6,8 @@ use std::test::Fail;
 
 fn pattern() -> [u8; LONGEST] {
     let mut bytes = [0; LONGEST];
-    for i in 0..LONGEST {
-        bytes[i] = ((7 * i + 3) % 256) as u8;
+    for (i, byte) in bytes.iter_mut().enumerate() {
+        *byte = ((7 * i + 3) % 256) as u8;
     }
     bytes
 }

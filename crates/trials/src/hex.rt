@@ -13,13 +13,13 @@ fn nibble(digit: u8) -> u8
 
 // The 32 bytes that 64 hexadecimal digits spell, or zeros.
 pub(crate) fn spelled(hex: &str) -> [u8; 32] {
-    let digits = hex.as_bytes();
     let mut bytes = [0; 32];
-    if digits.len() != 64 {
+    let Some(digits) = hex.as_bytes().as_array::<64>() else {
         return bytes;
-    }
-    for i in 0..32 {
-        bytes[i] = 16 * nibble(digits[2 * i]) + nibble(digits[2 * i + 1]);
+    };
+    let (pairs, _) = digits.as_chunks::<2>();
+    for (byte, [high, low]) in bytes.iter_mut().zip(pairs) {
+        *byte = 16 * nibble(*high) + nibble(*low);
     }
     bytes
 }

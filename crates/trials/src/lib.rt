@@ -8,6 +8,8 @@ mod hashing;
 #[cfg(test)]
 mod hex;
 #[cfg(test)]
+mod refusals;
+#[cfg(test)]
 mod signatures;
 #[cfg(test)]
 mod signing;

@@ -1,9 +1,10 @@
 // Both schemes: vectors of the one-time scheme from another implementation, and the order of the refusals.
 use crate::hex::spelled;
+use crate::refusals;
 use crate::signatures::{FIRST, LAST, MIDDLE, Vector};
 use hash::sha256;
 use onetime::OneTime;
-use schemes::{Register, Scheme};
+use schemes::{Message, Register, Scheme};
 use std::process::Abort;
 use std::test::Fail;
 use turns::{Layer, Refusal};
@@ -15,7 +16,7 @@ fn public_of(secret: &[u8; 32]) -> [u8; 32] {
 }
 
 // Public key and signature are those of the vector, byte for byte.
-fn is_made(rt: &impl Abort, vector: &Vector) -> Result<(), Fail> {
+fn is_made(rt: &impl Abort, vector: &Vector) {
     let secret = spelled(vector.secret);
     let public = spelled(vector.public);
     assert!(rt; public_of(&secret) == public);
@@ -23,20 +24,19 @@ fn is_made(rt: &impl Abort, vector: &Vector) -> Result<(), Fail> {
     assert!(rt; scheme.enrol(KEY, &public).is_ok());
     let mut signature = [0; 2304];
     let digest = spelled(vector.digest);
-    assert!(rt;
-        scheme
-            .sign(KEY, vector.turn, &digest, &secret, &mut signature)
-            .is_ok()
-    );
-    for (i, part) in vector.signature.iter().enumerate() {
-        let Some(made) = signature.get(32 * i..32 * i + 32) else {
-            return Err(Fail::new("the vector is too long"));
-        };
-        assert!(rt; made == &spelled(part)[..]);
+    let message = Message {
+        key: KEY,
+        turn: vector.turn,
+        digest: &digest,
+    };
+    assert!(rt; scheme.sign(&message, &secret, &mut signature).is_ok());
+    let (parts, _) = signature.as_chunks::<32>();
+    assert!(rt; parts.len() == vector.signature.len());
+    for (made, part) in parts.iter().zip(vector.signature) {
+        assert!(rt; *made == spelled(part));
     }
-    assert!(rt; scheme.check(KEY, vector.turn, &digest, &signature));
+    assert!(rt; scheme.check(&message, &signature));
     is_changed(rt, &scheme, vector.turn, &digest, signature);
-    Ok(())
 }
 
 // No single byte may be changed: at every 61st place, so that each part is met.
@@ -47,50 +47,52 @@ fn is_changed(
     digest: &[u8; 32],
     signature: [u8; 2304],
 ) {
+    let message = Message {
+        key: KEY,
+        turn,
+        digest,
+    };
     for at in 0..2304usize {
         if at % 61 == 0 || at == 2303 {
             let mut changed = signature;
             changed[at] ^= 1;
-            assert!(rt; !scheme.check(KEY, turn, digest, &changed));
+            assert!(rt; !scheme.check(&message, &changed));
         }
     }
     let mut other = *digest;
     other[31] ^= 1;
-    assert!(rt; !scheme.check(KEY, turn, &other, &signature));
-    assert!(rt; !scheme.check(KEY, turn ^ 1, digest, &signature));
-    assert!(rt; !scheme.check(KEY ^ 1, turn, digest, &signature));
-    assert!(rt; !scheme.check(KEY, turn, digest, &signature[0..2303]));
+    let digest = &other;
+    assert!(rt; !scheme.check(&Message { digest, ..message }, &signature));
+    let turn = turn ^ 1;
+    assert!(rt; !scheme.check(&Message { turn, ..message }, &signature));
+    let key = KEY ^ 1;
+    assert!(rt; !scheme.check(&Message { key, ..message }, &signature));
+    assert!(rt; !scheme.check(&message, &signature[0..2303]));
 }
 
 #[test]
-fn first_vector(rt: HostRuntime) -> Result<(), Fail> {
-    is_made(&rt, &FIRST)
+fn first_vector(rt: HostRuntime) {
+    is_made(&rt, &FIRST);
 }
 
 #[test]
-fn middle_vector(rt: HostRuntime) -> Result<(), Fail> {
-    is_made(&rt, &MIDDLE)
+fn middle_vector(rt: HostRuntime) {
+    is_made(&rt, &MIDDLE);
 }
 
 #[test]
-fn last_vector(rt: HostRuntime) -> Result<(), Fail> {
-    is_made(&rt, &LAST)
+fn last_vector(rt: HostRuntime) {
+    is_made(&rt, &LAST);
 }
 
+// A scheme's refusal blames no state.
 fn says(
     rt: &impl Abort,
     answer: Result<(), Refusal>,
     number: u8,
     at_match: u8,
 ) -> Result<(), Fail> {
-    match answer {
-        Ok(()) => Err(Fail::new("let through")),
-        Err(refusal) => {
-            assert!(rt; u8::from(refusal.reason) == number && refusal.layer == Layer::Scheme);
-            assert!(rt; refusal.at_match == at_match && refusal.seat == 255 && refusal.turn == 255);
-            Ok(())
-        }
-    }
+    refusals::says(rt, answer, (number, Layer::Scheme, at_match, 255, 255))
 }
 
 // A key is enrolled once, with a public key of 32 bytes.
@@ -112,7 +114,7 @@ fn signs<S: Scheme>(
     secret: &[u8],
 ) -> Result<(), Refusal> {
     let mut room = [7; 2400];
-    scheme.sign(key, turn, digest, secret, &mut room)
+    scheme.sign(&Message { key, turn, digest }, secret, &mut room)
 }
 
 fn refuses_arguments<S: Scheme>(
@@ -161,15 +163,15 @@ fn a_buffer_is_kept(rt: HostRuntime) -> Result<(), Fail> {
     let secret = [11; 32];
     let mut scheme = OneTime::new();
     assert!(rt; scheme.enrol(0, &public_of(&secret)).is_ok());
+    let message = Message {
+        key: 0,
+        turn: 0,
+        digest: &[1; 32],
+    };
     let mut room = [7; 2306];
-    says(
-        &rt,
-        scheme.sign(0, 0, &[1; 32], &[99; 32], &mut room),
-        14,
-        0,
-    )?;
+    says(&rt, scheme.sign(&message, &[99; 32], &mut room), 14, 0)?;
     assert!(rt; room == [7; 2306]);
-    assert!(rt; scheme.sign(0, 0, &[1; 32], &secret, &mut room).is_ok());
+    assert!(rt; scheme.sign(&message, &secret, &mut room).is_ok());
     assert!(rt; room[2304] == 7 && room[2305] == 7);
     Ok(())
 }
@@ -192,8 +194,13 @@ fn a_short_buffer_is_refused(rt: HostRuntime) -> Result<(), Fail> {
     let secret = [11; 32];
     let mut scheme = OneTime::new();
     let mut room = [0; 2303];
+    let message = Message {
+        key: 3,
+        turn: 0,
+        digest: &[0; 32],
+    };
     // too short a buffer comes before an unknown key
-    says(&rt, scheme.sign(3, 0, &[0; 32], &secret, &mut room), 13, 1)
+    says(&rt, scheme.sign(&message, &secret, &mut room), 13, 1)
 }
 
 #[test]
@@ -205,11 +212,19 @@ fn a_register_accepts_what_was_entered(rt: HostRuntime) {
     assert!(rt; Register::public_key(&secret) == Some(public));
     let mut scheme = Register::new();
     assert!(rt; scheme.enrol(KEY, &public).is_ok());
-    assert!(rt; !scheme.check(KEY, 7, &digest, &[]));
-    assert!(rt; scheme.sign(KEY, 7, &digest, &secret, &mut []).is_ok());
-    assert!(rt; scheme.check(KEY, 7, &digest, &[]));
-    assert!(rt; !scheme.check(KEY, 7, &sha256(b"another"), &[]));
-    assert!(rt; !scheme.check(KEY, 8, &digest, &[]));
-    assert!(rt; !scheme.check(KEY, 7, &digest, &[0]));
-    assert!(rt; !scheme.check(KEY, 32, &digest, &[]) && !scheme.check(6, 7, &digest, &[]));
+    let message = Message {
+        key: KEY,
+        turn: 7,
+        digest: &digest,
+    };
+    assert!(rt; !scheme.check(&message, &[]));
+    assert!(rt; scheme.sign(&message, &secret, &mut []).is_ok());
+    assert!(rt; scheme.check(&message, &[]));
+    let another = sha256(b"another");
+    let digest = &another;
+    assert!(rt; !scheme.check(&Message { digest, ..message }, &[]));
+    assert!(rt; !scheme.check(&Message { turn: 8, ..message }, &[]));
+    assert!(rt; !scheme.check(&message, &[0]));
+    assert!(rt; !scheme.check(&Message { turn: 32, ..message }, &[]));
+    assert!(rt; !scheme.check(&Message { key: 6, ..message }, &[]));
 }

@@ -1,8 +1,9 @@
 // States are read in the order of their refusals; kinds fit turns; kinds follow kinds.
+use crate::refusals::says;
 use games::TicTacToe;
 use std::process::Abort;
 use std::test::Fail;
-use turns::{Amounts, DATA_LEN, Kind, Layer, Position, Refusal, State, Terms};
+use turns::{Amounts, DATA_LEN, Kind, Layer, Position, State, Terms};
 
 const TERMS: Terms = Terms {
     docket: 7,
@@ -26,20 +27,6 @@ fn state(turn: u8, kind: Kind, seat0: u64, seat1: u64) -> State {
     }
 }
 
-// What a refusal says: number, layer, match, seat, turn.
-fn says(
-    rt: &impl Abort,
-    refusal: Refusal,
-    number: u8,
-    layer: Layer,
-    seat: u8,
-    turn: u8,
-) -> Result<(), Fail> {
-    assert!(rt; u8::from(refusal.reason) == number && refusal.layer == layer);
-    assert!(rt; refusal.at_match == 3 && refusal.seat == seat && refusal.turn == turn);
-    Ok(())
-}
-
 // One byte is changed in the bytes of a good state.
 fn refused(
     rt: &impl Abort,
@@ -52,10 +39,7 @@ fn refused(
     let mut bytes = state(3, Kind::PostFund, 6, 4).write();
     assert!(rt; at < 96);
     bytes[at] = byte;
-    match TERMS.read(&bytes) {
-        Ok(_) => Err(Fail::new("let through")),
-        Err(refusal) => says(rt, refusal, number, Layer::Turns, seat, turn),
-    }
+    says(rt, TERMS.read(&bytes), (number, Layer::Turns, 3, seat, turn))
 }
 
 #[test]
@@ -78,19 +62,14 @@ fn a_changed_byte_is_refused(rt: HostRuntime) -> Result<(), Fail> {
 #[test]
 fn a_wrong_length_is_refused(rt: HostRuntime) -> Result<(), Fail> {
     let bytes = state(3, Kind::PostFund, 6, 4).write();
-    match TERMS.read(&bytes[0..95]) {
-        Ok(_) => Err(Fail::new("let through")),
-        Err(refusal) => says(&rt, refusal, 1, Layer::Turns, 255, 255),
-    }
+    says(&rt, TERMS.read(&bytes[0..95]), (1, Layer::Turns, 3, 255, 255))
 }
 
 #[test]
 fn amounts_that_would_wrap_are_refused(rt: HostRuntime) -> Result<(), Fail> {
     // 2^64 - 1 and 11 add up to 10 only if the sum wraps
-    match TERMS.read(&state(4, Kind::Game, u64::MAX, 11).write()) {
-        Ok(_) => Err(Fail::new("let through")),
-        Err(refusal) => says(&rt, refusal, 5, Layer::Turns, 0, 4),
-    }
+    let bytes = state(4, Kind::Game, u64::MAX, 11).write();
+    says(&rt, TERMS.read(&bytes), (5, Layer::Turns, 3, 0, 4))
 }
 
 // Turn 0 takes kind 0; turn 1 takes 0 or 3; 2 and 3 take 1 or 3; 4 to 25 take 2 or 3; 26 to 31 take 3.
@@ -139,12 +118,11 @@ fn kinds_follow_kinds(rt: HostRuntime) -> Result<(), Fail> {
         for after in kinds {
             let asked = after == Kind::Game && (before == Kind::PostFund || before == Kind::Game);
             let layer = if asked { Layer::Game } else { Layer::Turns };
-            match TERMS.step(&TicTacToe, &state(8, before, 6, 4), &state(9, after, 6, 4)) {
-                Ok(_) => assert!(rt; follows(before, after)),
-                Err(refusal) => {
-                    assert!(rt; !follows(before, after));
-                    says(&rt, refusal, 8, layer, 1, 9)?;
-                }
+            let answer = TERMS.step(&TicTacToe, &state(8, before, 6, 4), &state(9, after, 6, 4));
+            if follows(before, after) {
+                assert!(rt; answer.is_ok());
+            } else {
+                says(&rt, answer, (8, layer, 3, 1, 9))?;
             }
         }
     }
@@ -154,20 +132,16 @@ fn kinds_follow_kinds(rt: HostRuntime) -> Result<(), Fail> {
 #[test]
 fn a_conclude_keeps_the_amounts(rt: HostRuntime) -> Result<(), Fail> {
     let before = state(8, Kind::Game, 6, 4);
-    match TERMS.step(&TicTacToe, &before, &state(9, Kind::Conclude, 4, 6)) {
-        Ok(_) => Err(Fail::new("let through")),
-        Err(refusal) => says(&rt, refusal, 8, Layer::Turns, 1, 9),
-    }
+    let answer = TERMS.step(&TicTacToe, &before, &state(9, Kind::Conclude, 4, 6));
+    says(&rt, answer, (8, Layer::Turns, 3, 1, 9))
 }
 
 #[test]
 fn a_turn_is_not_left_out(rt: HostRuntime) -> Result<(), Fail> {
     let before = state(8, Kind::Game, 6, 4);
     for turn in [0, 7, 8, 10, 255] {
-        match TERMS.step(&TicTacToe, &before, &state(turn, Kind::Conclude, 6, 4)) {
-            Ok(_) => return Err(Fail::new("let through")),
-            Err(refusal) => says(&rt, refusal, 7, Layer::Turns, turn % 2, turn)?,
-        }
+        let answer = TERMS.step(&TicTacToe, &before, &state(turn, Kind::Conclude, 6, 4));
+        says(&rt, answer, (7, Layer::Turns, 3, turn % 2, turn))?;
     }
     Ok(())
 }

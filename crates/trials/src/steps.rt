@@ -2,7 +2,7 @@
 use games::{RockPaperScissors, Shelf, TicTacToe};
 use hash::sha256;
 use std::process::Abort;
-use turns::{Amounts, DATA_LEN, Game, Position};
+use turns::{Amounts, DATA_LEN, Game, Position, Step};
 
 const STAKE: u64 = 2;
 
@@ -10,12 +10,9 @@ const EMPTY: [u8; DATA_LEN] = [0; DATA_LEN];
 
 const SALT: u8 = 77;
 
-fn position(amounts: (u64, u64), data: [u8; DATA_LEN]) -> Position {
+fn position((seat0, seat1): (u64, u64), data: [u8; DATA_LEN]) -> Position {
     Position {
-        amounts: Amounts {
-            seat0: amounts.0,
-            seat1: amounts.1,
-        },
+        amounts: Amounts { seat0, seat1 },
         data,
     }
 }
@@ -59,10 +56,15 @@ type Row = (
 );
 
 fn hold<G: Game>(rt: &impl Abort, game: &G, code: u8, rows: &[Row]) {
-    for row in rows {
-        let before = position(row.1, row.2);
-        let after = position(row.3, row.4);
-        assert!(rt; game.allows(code, STAKE, row.0, &before, &after) == row.5);
+    for (turn, had, old, have, new, lawful) in rows {
+        let step = Step {
+            code,
+            stake: STAKE,
+            turn: *turn,
+            before: position(*had, *old),
+            after: position(*have, *new),
+        };
+        assert!(rt; game.allows(&step) == *lawful);
     }
 }
 
@@ -243,10 +245,9 @@ fn a_shelf_asks_the_game_of_the_code(rt: HostRuntime) {
     assert!(rt; shelf.knows(1) && shelf.knows(2) && !shelf.knows(0) && !shelf.knows(3));
     hold(&rt, &shelf, 1, &shown_throws());
     hold(&rt, &shelf, 2, &lines());
-    let before = position((6, 4), EMPTY);
-    let after = position((8, 2), board(1, 16, 0));
-    assert!(rt; !shelf.allows(1, STAKE, 4, &before, &after));
-    assert!(rt; !shelf.allows(3, STAKE, 4, &before, &after));
+    let first_mark = [(4, (6, 4), EMPTY, (8, 2), board(1, 16, 0), false)];
+    hold(&rt, &shelf, 1, &first_mark);
+    hold(&rt, &shelf, 3, &first_mark);
 }
 
 // Amounts near the end of 64 bits do not wrap.

@@ -9,11 +9,11 @@ mod signed;
 mod wrong;
 
 use games::{RockPaperScissors, Shelf, TicTacToe, is_house_code};
-use judge::judge;
+use judge::Judge;
 use onetime::OneTime;
 use records::{rock_paper_scissors, terms, tic_tac_toe};
 use schemes::{PUBLIC_LEN, Register, Scheme};
-use signed::{enrol, refuse_signings, secret, sign_match};
+use signed::{Signing, secret};
 use std::io;
 use turns::State;
 use wrong::refuse_all;
@@ -37,17 +37,6 @@ fn tell_house(rt: &HostRuntime) -> io::Result<()> {
     Ok(())
 }
 
-fn enrol_seats<S: Scheme>(
-    rt: &HostRuntime,
-    scheme: &mut S,
-    publics: [Option<[u8; PUBLIC_LEN]>; 4],
-) -> io::Result<()> {
-    for (key, public) in publics.iter().enumerate() {
-        enrol(rt, scheme, (key % 16) as u8, *public)?;
-    }
-    enrol(rt, scheme, 0, publics[0])
-}
-
 // Both matches under one scheme, from the enrolment to the last state.
 fn play_signed<S: Scheme>(
     rt: &HostRuntime,
@@ -56,11 +45,12 @@ fn play_signed<S: Scheme>(
     throws: &[State],
     marks: &[State],
 ) -> io::Result<()> {
-    enrol_seats(rt, scheme, publics)?;
+    let mut signing = Signing { rt, scheme };
+    signing.enrol_seats(publics)?;
     println!(rt; "  match 0:")?;
-    let first = sign_match(rt, scheme, throws)?;
+    let first = signing.sign_match(throws)?;
     println!(rt; "  match 1:")?;
-    let second = sign_match(rt, scheme, marks)?;
+    let second = signing.sign_match(marks)?;
     let words = if first && second {
         "Every state of both matches is signed by its mover, and every signature checks."
     } else {
@@ -70,36 +60,18 @@ fn play_signed<S: Scheme>(
     println!(rt)?;
     println!(rt; "What else this scheme is asked:")?;
     match throws {
-        [state, ..] => refuse_signings(rt, scheme, state)?,
+        [state, ..] => signing.refuse_signings(state)?,
         [] => println!(rt; "  nothing was signed")?,
     }
     println!(rt)
 }
 
-fn register_key(key: u8) -> Option<[u8; PUBLIC_LEN]> {
-    Register::public_key(&secret(key))
-}
-
-fn onetime_key(key: u8) -> Option<[u8; PUBLIC_LEN]> {
-    OneTime::public_key(&secret(key))
-}
-
 fn sign_both(rt: &HostRuntime, throws: &[State], marks: &[State]) -> io::Result<()> {
     println!(rt; "Signed by the register scheme:")?;
-    let publics = [
-        register_key(0),
-        register_key(1),
-        register_key(2),
-        register_key(3),
-    ];
+    let publics = [0, 1, 2, 3].map(|key| Register::public_key(&secret(key)));
     play_signed(rt, &mut Register::new(), publics, throws, marks)?;
     println!(rt; "Signed by the one-time scheme:")?;
-    let publics = [
-        onetime_key(0),
-        onetime_key(1),
-        onetime_key(2),
-        onetime_key(3),
-    ];
+    let publics = [0, 1, 2, 3].map(|key| OneTime::public_key(&secret(key)));
     play_signed(rt, &mut OneTime::new(), publics, throws, marks)
 }
 
@@ -107,6 +79,10 @@ fn main(rt: HostRuntime) -> io::Result<()> {
     let shelf = Shelf {
         first: RockPaperScissors,
         second: TicTacToe,
+    };
+    let judge = Judge {
+        rt: &rt,
+        game: &shelf,
     };
     let throwing = terms(0, 1);
     let marking = terms(1, 2);
@@ -118,13 +94,13 @@ fn main(rt: HostRuntime) -> io::Result<()> {
     )?;
     println!(rt)?;
     println!(rt; "Match 0, Rock-Paper-Scissors:")?;
-    let good = judge(&rt, &shelf, &throwing, &throws)?;
+    let good = judge.judge(&throwing, &throws)?;
     verdict(&rt, good)?;
     println!(rt; "Match 1, Tic-Tac-Toe:")?;
-    let good = judge(&rt, &shelf, &marking, &marks)?;
+    let good = judge.judge(&marking, &marks)?;
     verdict(&rt, good)?;
     println!(rt; "Moves that are wrong, and what they get:")?;
-    refuse_all(&rt, &shelf, &throwing, &marking)?;
+    refuse_all(&judge, &throwing, &marking)?;
     println!(rt)?;
     sign_both(&rt, &throws, &marks)
 }
