@@ -225,6 +225,14 @@ fn a_register_accepts_what_was_entered(rt: HostRuntime) {
     assert!(rt; !scheme.check(&Message { digest, ..message }, &[]));
     assert!(rt; !scheme.check(&Message { turn: 8, ..message }, &[]));
     assert!(rt; !scheme.check(&message, &[0]));
-    assert!(rt; !scheme.check(&Message { turn: 32, ..message }, &[]));
+    assert!(rt;
+        !scheme.check(
+            &Message {
+                turn: 32,
+                ..message
+            },
+            &[]
+        )
+    );
     assert!(rt; !scheme.check(&Message { key: 6, ..message }, &[]));
 }

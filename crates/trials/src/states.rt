@@ -39,7 +39,11 @@ fn refused(
     let mut bytes = state(3, Kind::PostFund, 6, 4).write();
     assert!(rt; at < 96);
     bytes[at] = byte;
-    says(rt, TERMS.read(&bytes), (number, Layer::Turns, 3, seat, turn))
+    says(
+        rt,
+        TERMS.read(&bytes),
+        (number, Layer::Turns, 3, seat, turn),
+    )
 }
 
 #[test]
@@ -62,7 +66,11 @@ fn a_changed_byte_is_refused(rt: HostRuntime) -> Result<(), Fail> {
 #[test]
 fn a_wrong_length_is_refused(rt: HostRuntime) -> Result<(), Fail> {
     let bytes = state(3, Kind::PostFund, 6, 4).write();
-    says(&rt, TERMS.read(&bytes[0..95]), (1, Layer::Turns, 3, 255, 255))
+    says(
+        &rt,
+        TERMS.read(&bytes[0..95]),
+        (1, Layer::Turns, 3, 255, 255),
+    )
 }
 
 #[test]
