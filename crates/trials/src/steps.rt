@@ -2,7 +2,7 @@
 use games::{RockPaperScissors, Shelf, TicTacToe};
 use hash::sha256;
 use std::process::Abort;
-use turns::{Amounts, DATA_LEN, Game, Position};
+use turns::{Amounts, DATA_LEN, Game, Position, Step};
 
 const STAKE: u64 = 2;
 
@@ -58,11 +58,21 @@ type Row = (
     bool,
 );
 
+fn step(code: u8, turn: u8, before: Position, after: Position) -> Step {
+    Step {
+        code,
+        stake: STAKE,
+        turn,
+        before,
+        after,
+    }
+}
+
 fn hold<G: Game>(rt: &impl Abort, game: &G, code: u8, rows: &[Row]) {
     for row in rows {
         let before = position(row.1, row.2);
         let after = position(row.3, row.4);
-        assert!(rt; game.allows(code, STAKE, row.0, &before, &after) == row.5);
+        assert!(rt; game.allows(&step(code, row.0, before, after)) == row.5);
     }
 }
 
@@ -245,8 +255,8 @@ fn a_shelf_asks_the_game_of_the_code(rt: HostRuntime) {
     hold(&rt, &shelf, 2, &lines());
     let before = position((6, 4), EMPTY);
     let after = position((8, 2), board(1, 16, 0));
-    assert!(rt; !shelf.allows(1, STAKE, 4, &before, &after));
-    assert!(rt; !shelf.allows(3, STAKE, 4, &before, &after));
+    assert!(rt; !shelf.allows(&step(1, 4, before, after)));
+    assert!(rt; !shelf.allows(&step(3, 4, before, after)));
 }
 
 // Amounts near the end of 64 bits do not wrap.
