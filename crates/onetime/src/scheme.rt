@@ -1,10 +1,8 @@
-ghost use Rattle.std.specs.Prelude.{◌≡◌, ℕ, ◌<◌, ◌≤◌, true, false, ◌||◌, List, [], length, take, drop, None, ◌==◌, slice_index_or, slice_set};
+ghost use Rattle.std.specs.Prelude.{◌≡◌, ℕ, ◌<◌, ◌≤◌, false, List, length, take, drop, None};
 ghost use Rattle.onetime.specs.Meanings.{Cleared, SignatureWritten, fits_onetime, onetime_means, public_key};
 ghost use Rattle.onetime.specs.Signatures.{ChainsMeet, PathsLeadUp, SignaturesAccepted, signature};
 ghost use Rattle.onetime.specs.Trees.{Grown};
-ghost use Rattle.schemes.specs.Calls.{After, Buffer, NewKey, Spends, enrol_refusal, sign_refusal};
-ghost use Rattle.schemes.specs.Meaning.{Keeps};
-ghost use Rattle.turns.specs.Refusals.{answer};
+ghost use Rattle.schemes.specs.Calls.{Signs};
 ghost use Rattle.std.proofs.Common.{rules};
 
 use crate::chains::chains_at;
@@ -120,10 +118,7 @@ impl Scheme for OneTime {
         secret: &[u8],
         signature: &mut [u8],
     ) -> Result<(), Refusal>
-        ensures answer { result ≡ answer (sign_refusal 2304 32 fits_onetime (onetime_means self.old) message.now.key message.now.turn message.now.digest.now secret.now (length signature.old)) tt }
-        ensures after { After result (Spends message.now.key message.now.turn message.now.digest.now (take 2304 signature.new) (onetime_means self.old) (onetime_means self.new)) (onetime_means self.old) (onetime_means self.new) }
-        ensures kept { Keeps message.now.key (onetime_means self.old) (onetime_means self.new) }
-        ensures buffer { Buffer 2304 result signature.old signature.new }
+        ensures signing { Signs 2304 32 fits_onetime (onetime_means self.old) (onetime_means self.new) message.now.key message.now.turn message.now.digest.now secret.now signature.old signature.new tt result }
         ensures bytes { SignatureWritten result secret.now message.now.turn message.now.digest.now signature.new }
     {
         let (ready, tree) = self.clear_to_sign(message, secret, signature.len())?;

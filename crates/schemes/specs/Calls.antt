@@ -1,10 +1,10 @@
-use Rattle.std.specs.Prelude.{◌≡◌, ℕ, ◌/◌, Bool, true, false, cond, not, ◌||◌, List, [], ◌∷◌, ◌++◌, length, drop, is_some, Some, None, Ok, Err, Option, Result, ◌==◌, nat_lt}
+use Rattle.std.specs.Prelude.{◌≡◌, ℕ, ◌/◌, Bool, true, false, cond, not, ◌||◌, List, [], ◌∷◌, ◌++◌, length, take, drop, is_some, Some, None, Ok, Err, Option, Result, ◌==◌, nat_lt}
 use Rattle.turns.specs.declared.layer.Layer.TheVariants as L
 use Rattle.turns.specs.declared.refusal.Reason.{Reason}
 use Rattle.turns.specs.declared.refusal.Reason.TheVariants as R
 use Rattle.turns.specs.declared.refusal.Refusal.{Refusal}
-use Rattle.turns.specs.Refusals.{Rung, rung, refuse, first_found}
-use Rattle.schemes.specs.Meaning.{Meaning}
+use Rattle.turns.specs.Refusals.{Rung, rung, refuse, first_found, answer}
+use Rattle.schemes.specs.Meaning.{Keeps, Meaning}
 
 -- the match that a key is of: seat s of match m has key 2m + s
 abbrev pub match_of : ℕ → ℕ
@@ -86,3 +86,16 @@ After (Err e) Left m m' = m' ≡ m
 abbrev pub Buffer : {A : Type 0} → ℕ → Result A Refusal → List ℕ → List ℕ → Type 0
 Buffer siglen (Ok a) buffer buffer' = drop siglen buffer' ≡ drop siglen buffer
 Buffer siglen (Err e) buffer buffer' = buffer' ≡ buffer
+
+-- what an enrolment answers, with `a` where it is accepted, and what it leaves
+pub record Enrols {A : Type 0} (publen : ℕ) (m m' : Meaning) (key : ℕ) (public : List ℕ) (a : A) (r : Result A Refusal) : Type 0 where
+  pub answer : r ≡ answer (enrol_refusal publen (m.public key) key public) a
+  pub after : After r (NewKey key public m') m m'
+  pub kept : Keeps key m m'
+
+-- what a signing answers, with `a` where it is accepted, and what it leaves, the lent buffer too
+pub record Signs {A : Type 0} (siglen seclen : ℕ) (fits : List ℕ → List ℕ → Bool) (m m' : Meaning) (key turn : ℕ) (digest secret lent lent' : List ℕ) (a : A) (r : Result A Refusal) : Type 0 where
+  pub answer : r ≡ answer (sign_refusal siglen seclen fits m key turn digest secret (length lent)) a
+  pub after : After r (Spends key turn digest (take siglen lent') m m') m m'
+  pub kept : Keeps key m m'
+  pub buffer : Buffer siglen r lent lent'

@@ -1,7 +1,6 @@
-ghost use Rattle.std.specs.Prelude.{◌≡◌, ℕ, ◌≤◌, Bool, true, List, length, take, is_some};
-ghost use Rattle.schemes.specs.Calls.{After, Buffer, NewKey, Spends, enrol_refusal, sign_refusal};
-ghost use Rattle.schemes.specs.Meaning.{Keeps, Meaning, Proper};
-ghost use Rattle.turns.specs.Refusals.{answer};
+ghost use Rattle.std.specs.Prelude.{◌≡◌, ℕ, ◌≤◌, Bool, true, List, is_some};
+ghost use Rattle.schemes.specs.Calls.{Enrols, Signs};
+ghost use Rattle.schemes.specs.Meaning.{Meaning, Proper};
 
 use crate::place::Message;
 use turns::Refusal;
@@ -32,9 +31,7 @@ pub trait Scheme {
 
     // Gives a key its public key.
     fn enrol(&mut self, key: u8, public: &[u8]) -> Result<(), Refusal>
-        ensures answer { result ≡ answer (enrol_refusal P ((means self.old).public key) key public.now) tt }
-        ensures after { After result (NewKey key public.now (means self.new)) (means self.old) (means self.new) }
-        ensures kept { Keeps key (means self.old) (means self.new) };
+        ensures { Enrols P (means self.old) (means self.new) key public.now tt result };
 
     // Spends a turn of a key on a digest, and writes the signature into the front of the lent buffer.
     fn sign(
@@ -43,10 +40,7 @@ pub trait Scheme {
         secret: &[u8],
         signature: &mut [u8],
     ) -> Result<(), Refusal>
-        ensures answer { result ≡ answer (sign_refusal L Q fits (means self.old) message.now.key message.now.turn message.now.digest.now secret.now (length signature.old)) tt }
-        ensures after { After result (Spends message.now.key message.now.turn message.now.digest.now (take L signature.new) (means self.old) (means self.new)) (means self.old) (means self.new) }
-        ensures kept { Keeps message.now.key (means self.old) (means self.new) }
-        ensures buffer { Buffer L result signature.old signature.new };
+        ensures { Signs L Q fits (means self.old) (means self.new) message.now.key message.now.turn message.now.digest.now secret.now signature.old signature.new tt result };
 
     // Whether the scheme accepts a signature.
     fn check(&self, message: &Message<'_>, signature: &[u8]) -> bool

@@ -1,7 +1,5 @@
-ghost use Rattle.std.specs.Prelude.{◌≡◌, ◌≤◌, true, length, take, Ok, Err, ◌≢◌};
-ghost use Rattle.schemes.specs.Calls.{After, Buffer, NewKey, Spends, enrol_refusal, sign_refusal};
-ghost use Rattle.schemes.specs.Meaning.{Keeps};
-ghost use Rattle.turns.specs.Refusals.{answer};
+ghost use Rattle.std.specs.Prelude.{◌≡◌, ◌≤◌, true, Ok, Err, ◌≢◌};
+ghost use Rattle.schemes.specs.Calls.{Enrols, Signs};
 
 use crate::place::Message;
 use crate::scheme::Scheme;
@@ -9,9 +7,7 @@ use turns::Refusal;
 
 // Enrols a key, and asks for it: where the enrolment is accepted the answer is yes, at every scheme.
 pub fn enrol_and_ask<S: Scheme>(scheme: &mut S, key: u8, public: &[u8]) -> Result<bool, Refusal>
-    ensures answer { result ≡ answer (enrol_refusal S.Scheme.P ((S.Scheme.means scheme.old).public key) key public.now) true }
-    ensures after { After result (NewKey key public.now (S.Scheme.means scheme.new)) (S.Scheme.means scheme.old) (S.Scheme.means scheme.new) }
-    ensures kept { Keeps key (S.Scheme.means scheme.old) (S.Scheme.means scheme.new) }
+    ensures { Enrols S.Scheme.P (S.Scheme.means scheme.old) (S.Scheme.means scheme.new) key public.now true result }
 {
     scheme.enrol(key, public)?;
     Ok(scheme.enrolled(key))
@@ -24,10 +20,7 @@ pub fn sign_and_check<S: Scheme>(
     secret: &[u8],
     signature: &mut [u8],
 ) -> Result<bool, Refusal>
-    ensures answer { result ≡ answer (sign_refusal S.Scheme.L S.Scheme.Q S.Scheme.fits (S.Scheme.means scheme.old) message.now.key message.now.turn message.now.digest.now secret.now (length signature.old)) true }
-    ensures after { After result (Spends message.now.key message.now.turn message.now.digest.now (take S.Scheme.L signature.new) (S.Scheme.means scheme.old) (S.Scheme.means scheme.new)) (S.Scheme.means scheme.old) (S.Scheme.means scheme.new) }
-    ensures kept { Keeps message.now.key (S.Scheme.means scheme.old) (S.Scheme.means scheme.new) }
-    ensures buffer { Buffer S.Scheme.L result signature.old signature.new }
+    ensures { Signs S.Scheme.L S.Scheme.Q S.Scheme.fits (S.Scheme.means scheme.old) (S.Scheme.means scheme.new) message.now.key message.now.turn message.now.digest.now secret.now signature.old signature.new true result }
 {
     scheme.sign(message, secret, signature)?;
     Ok(scheme.check(message, &signature[0..S::L]))
@@ -43,12 +36,9 @@ pub fn sign_between_checks<S: Scheme>(
     secret: &[u8],
     buffer: &mut [u8],
 ) -> (bool, Result<(), Refusal>, bool)
-    ensures answer { result.1 ≡ answer (sign_refusal S.Scheme.L S.Scheme.Q S.Scheme.fits (S.Scheme.means scheme.old) other.now.key other.now.turn other.now.digest.now secret.now (length buffer.old)) tt }
+    ensures signing { Signs S.Scheme.L S.Scheme.Q S.Scheme.fits (S.Scheme.means scheme.old) (S.Scheme.means scheme.new) other.now.key other.now.turn other.now.digest.now secret.now buffer.old buffer.new tt result.1 }
     ensures before { result.0 ≡ (S.Scheme.means scheme.old).accepts message.now.key message.now.turn message.now.digest.now signature.now }
     ensures after { result.2 ≡ (S.Scheme.means scheme.new).accepts message.now.key message.now.turn message.now.digest.now signature.now }
-    ensures left { After result.1 (Spends other.now.key other.now.turn other.now.digest.now (take S.Scheme.L buffer.new) (S.Scheme.means scheme.old) (S.Scheme.means scheme.new)) (S.Scheme.means scheme.old) (S.Scheme.means scheme.new) }
-    ensures kept { Keeps other.now.key (S.Scheme.means scheme.old) (S.Scheme.means scheme.new) }
-    ensures buffer { Buffer S.Scheme.L result.1 buffer.old buffer.new }
     ensures stays { result.0 ≡ true → result.2 ≡ true }
     ensures apart { (message.now.key ≢ other.now.key) → result.2 ≡ result.0 }
     ensures refused { elim result.1 [ Ok u ↦ Unit {0} | Err e ↦ result.2 ≡ result.0 ] }

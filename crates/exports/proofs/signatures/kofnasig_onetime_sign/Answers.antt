@@ -12,8 +12,8 @@ returns c =
     let digest = c.args.digest.now in
     let room = c.args.signature.now in
     let turn = c.args.turn in
-    let can = accepted m public secret digest room turn key.enrolled (key.unspent turn) key.long c.sign.result c.sign.ensures.answer in
+    let can = accepted m public secret digest room turn key.enrolled (key.unspent turn) key.long c.sign.result c.sign.ensures.signing.answer in
     record {
       answer = c.is_ok.ensures.value ∙ can;
-      after = left m public secret digest room turn key.enrolled (key.unspent turn) key.long c.sign.result c.sign.new.signature can c.sign.ensures.buffer c.sign.ensures.bytes;
+      after = left m public secret digest room turn key.enrolled (key.unspent turn) key.long c.sign.result c.sign.new.signature can c.sign.ensures.signing.buffer c.sign.ensures.bytes;
     }
