@@ -1,6 +1,7 @@
 -- The last blocks of a message, and the bytes of its digest.
 use Rattle.std.proofs.Common.{◌≡◌, ℕ, suc, ◌+◌, ◌-◌, ◌*◌, ◌/◌, ◌%◌, ◌^◌, ◌<◌, ◌≤◌, List, [], ◌∷◌, ◌++◌, length, get_or, take, drop, set, replicate, sym, refl, ap, ◌∙◌, div-one, w32, w64, arith, length-append}
 use Rattle.std.specs.Int.{to_be_bytes}
+use Rattle.std.specs.List.{flat_map}
 use borrow.Rule.Slice.PartMut.{put_mid, post_of}
 use Rattle.std.proofs.Math.Seq.{take-append-add}
 use Rattle.std.proofs.lemmas.List.{append_assoc, append-nil, drop-replicate, take-replicate, set_at, take_more, length-replicate}
@@ -55,19 +56,12 @@ closed_is rest count end ys zs fill far same bytes =
     ∙ append_assoc rest (128 ∷ replicate (zeros count) 0) zs
     ∙ ap (λ t. rest ++ 128 ∷ (replicate (zeros count) 0 ++ t)) (bytes ∙ sym (eight_bytes (count * 8 % 2 ^ 64)) ∙ ap (big_endian 8) times)
 
-digest_push : (xs : List ℕ) (x : ℕ) → digest (xs ++ x ∷ []) ≡ digest xs ++ big_endian 4 x
+pub digest_is : (value : List ℕ) (quads : List (List ℕ)) → length quads ≡ length value
+    → ((i : ℕ) → i < length value → get_or quads i [] ≡ to_be_bytes w32 (get_or value i 0)) → flat_map (λ x. x) quads ≡ digest value
 unfolding digest
-digest_push [] x = append-nil (big_endian 4 x)
-digest_push (y ∷ xs) x = ap (λ t. big_endian 4 y ++ t) (digest_push xs x) ∙ sym (append_assoc (big_endian 4 y) (digest xs) (big_endian 4 x))
-
-pub digest_step : (out value ys : List ℕ) (i : ℕ) → i < length value → 4 * i ≤ length out → ys ≡ to_be_bytes w32 (get_or value i 0)
-    → take (4 * i) out ≡ digest (take i value)
-    → take (4 * (i + 1)) (put_mid (4 * i) (4 * i + 4 - 4 * i) out ys) ≡ digest (take (i + 1) value)
-digest_step out value ys i lt le bytes before =
-    let four = ap length bytes in
-    let n : 4 * (i + 1) ≡ 4 * i + length ys = omega arith in
-    take-put_mid (4 * i) (4 * i + 4 - 4 * i) out ys (4 * (i + 1)) n le
-    ∙ ap (λ t. t ++ ys) before
-    ∙ ap (λ t. digest (take i value) ++ t) (bytes ∙ sym (four_bytes (get_or value i 0)))
-    ∙ sym (digest_push (take i value) (get_or value i 0))
-    ∙ ap digest (sym (take_more value i 0 lt))
+digest_is [] [] long each = refl
+digest_is [] (quad ∷ quads) long each = absurd (omega arith)
+digest_is (x ∷ value) [] long each = absurd (omega arith)
+digest_is (x ∷ value) (quad ∷ quads) long each =
+    ap (λ q. q ++ flat_map (λ x. x) quads) (each 0 (omega arith) ∙ sym (four_bytes x))
+    ∙ ap (λ t. big_endian 4 x ++ t) (digest_is value quads (omega arith) (λ i lt. each (suc i) (omega arith)))

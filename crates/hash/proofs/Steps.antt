@@ -59,17 +59,17 @@ next_is w t low high =
     let d : t - 16 < t = omega arith in
     rw (n, get_or-take t w (t - 2) 0 a, get_or-take t w (t - 7) 0 b, get_or-take t w (t - 15) 0 c, get_or-take t w (t - 16) 0 d)
 
-pub extended : (w first : List ℕ) (t x : ℕ) → 16 ≤ t → t < length w → x ≡ follows w t → take t w ≡ extend (t - 16) first
-    → take (t + 1) (set w t x) ≡ extend (t + 1 - 16) first
+pub extended : (w first : List ℕ) (t n x : ℕ) → n ≡ t + 1 → 16 ≤ t → t < length w → x ≡ follows w t → take t w ≡ extend (t - 16) first
+    → take n (set w t x) ≡ extend (n - 16) first
 unfolding more
-extended w first t x low high word same =
-    let e : t + 1 - 16 ≡ t - 16 + 1 = omega arith in
+extended w first t n x past low high word same =
+    let e : n - 16 ≡ t - 16 + 1 = omega arith in
     let le : t ≤ length w = omega arith in
-    take_more_set w t x high
+    ap (λ k. take k (set w t x)) past
+    ∙ take_more_set w t x high
     ∙ ap (λ y. take t w ++ y ∷ []) (word ∙ sym (next_is w t low le))
     ∙ ap more same
-    ∙ sym (extend_more (t - 16) first)
-    ∙ ap (λ k. extend k first) (sym e)
+    ∙ sym (ap (λ k. extend k first) e ∙ extend_more (t - 16) first)
 
 -- one round, with its constant and its word, and a round for each of some pairs of these
 abbrev pub round_of : List ℕ → ℕ × ℕ → List ℕ

@@ -32,12 +32,16 @@ fn next_word(w2: u32, w7: u32, w15: u32, w16: u32) -> u32
         .wrapping_add(w16)
 }
 
+// The schedule, by rows of eight words: the compiler unrolls a loop of eight, and none of 48.
 fn schedule(block: &[u8; BLOCK]) -> [u32; 64]
     ensures { result ≡ schedule block.now }
 {
     let mut w = first_words(block);
-    for t in 16..64 {
-        w[t] = next_word(w[t - 2], w[t - 7], w[t - 15], w[t - 16]);
+    for row in 2..8 {
+        for col in 0..8 {
+            let t = 8 * row + col;
+            w[t] = next_word(w[t - 2], w[t - 7], w[t - 15], w[t - 16]);
+        }
     }
     w
 }
