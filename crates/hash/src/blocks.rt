@@ -85,11 +85,7 @@ fn all_rounds(v: [u32; 8], ks: &[u32; 64], ws: &[u32; 64]) -> [u32; 8]
 fn added(u: [u32; 8], v: [u32; 8]) -> [u32; 8]
     ensures { result ≡ sums u v }
 {
-    array::from_fn(
-        |i: usize| -> u32
-            requires { i < 8 }
-        { u[i].wrapping_add(v[i]) },
-    )
+    array::from_fn(|i| u[i].wrapping_add(v[i]))
 }
 
 // The hash value after one block.
