@@ -8,10 +8,6 @@ use Rattle.std.proofs.lemmas.List.Sums.{fold_more, fold-append}
 use Rattle.std.proofs.lemmas.Slice.Zip.{length-zip, get_or-zip}
 use Rattle.hash.specs.Sha256.{add, sigma_0, sigma_1, word, words, next, more, extend, round, rounds, round_constants}
 
-pub words_none : (b : List ℕ) → words 0 b ≡ []
-unfolding words
-words_none b = refl
-
 words_more : (n : ℕ) (b : List ℕ) → words (n + 1) b ≡ words n b ++ word n b ∷ []
 unfolding words
 words_more n b = rw add-one
@@ -36,10 +32,6 @@ words_step w b quads n t x high lt all now before =
     ∙ ap (λ v. v ++ x ∷ []) before
     ∙ ap (λ y. words t b ++ y ∷ []) (now ∙ ap (λ qs. from_be_bytes w32 (get_or qs t [])) all ∙ word_of n t b lt)
     ∙ sym (words_more t b)
-
-pub extend_none : (w : List ℕ) → extend 0 w ≡ w
-unfolding extend
-extend_none w = refl
 
 extend_more : (k : ℕ) (w : List ℕ) → extend (k + 1) w ≡ more (extend k w)
 unfolding extend

@@ -1,11 +1,12 @@
 use Rattle.std.proofs.Common.{◌≡◌, ℕ, ◌+◌, ◌*◌, add-zero, sym, ◌∙◌, arith, rules}
 use Rattle.std.proofs.lemmas.List.{length-set, take_all}
-use Rattle.hash.specs.Sha256.{schedule, words}
-use Rattle.hash.proofs.Steps.{extend_none, extended}
+use Rattle.hash.specs.Sha256.{extend, schedule, words}
+use Rattle.hash.proofs.Steps.{extended}
 use Rattle.hash.proofs.blocks.schedule.Goals as goal
 
 pub loop-row-init : goal.loop-row-init
-loop-row-init c = (c.first_words-w.ensures ∙ sym (extend_none (words 16 c.args.block.now)), search rules)
+unfolding extend
+loop-row-init c = (c.first_words-w.ensures, search rules)
 
 pub loop-col-init : goal.loop-col-init
 loop-col-init c = rw add-zero c.loop-row.invariant

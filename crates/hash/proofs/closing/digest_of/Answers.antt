@@ -1,4 +1,4 @@
-use Rattle.std.proofs.Common.{◌<◌, ◌∙◌, [], rules}
+use Rattle.std.proofs.Common.{◌∙◌, [], rules}
 use Rattle.hash.proofs.Closings.{digest_is}
 use Rattle.hash.proofs.closing.digest_of.Goals as goal
 
