@@ -32,7 +32,7 @@ fn next_word(w2: u32, w7: u32, w15: u32, w16: u32) -> u32
         .wrapping_add(w16)
 }
 
-// The schedule, by rows of eight words: the compiler unrolls a loop of eight, and none of 48.
+// By index, since each word is made of earlier ones, and in rows of eight: a loop of eight is unrolled, and one of 48 is not.
 fn schedule(block: &[u8; BLOCK]) -> [u32; 64]
     ensures { result ≡ schedule block.now }
 {
@@ -73,7 +73,7 @@ fn eight_rounds(v: [u32; 8], given: (&[u32; 8], &[u32; 8])) -> [u32; 8]
         .fold(v, one_round)
 }
 
-// All rounds, eight at a time: the compiler unrolls a loop of eight, and none of 64.
+// All rounds, eight at a time: a loop of eight is unrolled, and one of 64 is not and takes a fifth longer.
 fn all_rounds(v: [u32; 8], ks: &[u32; 64], ws: &[u32; 64]) -> [u32; 8]
     ensures { result ≡ fold (λ v p. round p.0 p.1 v) v (zip ks.now ws.now) }
 {
