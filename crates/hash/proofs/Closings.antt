@@ -1,9 +1,10 @@
 -- The last blocks of a message, and the bytes of its digest.
-use Rattle.std.proofs.Common.{◌≡◌, ℕ, suc, ◌+◌, ◌-◌, ◌*◌, ◌/◌, ◌%◌, ◌^◌, ◌<◌, ◌≤◌, List, [], ◌∷◌, ◌++◌, length, get_or, take, drop, set, replicate, sym, refl, ap, ◌∙◌, div-one, w32, w64, arith, length-append}
-use Rattle.std.specs.Int.{to_be_bytes}
+use Rattle.std.proofs.Common.{◌≡◌, ℕ, zero, suc, ◌+◌, ◌-◌, ◌*◌, ◌/◌, ◌%◌, ◌^◌, ◌<◌, ◌≤◌, List, [], ◌∷◌, ◌++◌, length, get_or, take, drop, set, replicate, refl, ap, ◌∙◌, div-one, w32, w64, arith, length-append}
+use Rattle.std.specs.Int.{bytes_high_first, to_be_bytes}
+use Rattle.std.specs.List.{flat_map}
 use borrow.Rule.Slice.PartMut.{put_mid, post_of}
 use Rattle.std.proofs.Math.Seq.{take-append-add}
-use Rattle.std.proofs.lemmas.List.{append_assoc, append-nil, drop-replicate, take-replicate, set_at, take_more, length-replicate}
+use Rattle.std.proofs.lemmas.List.{append_assoc, drop-replicate, take-replicate, set_at, length-replicate}
 use Rattle.std.proofs.lemmas.Slice.{take-put_mid}
 use Rattle.hash.specs.Sha256.{big_endian, digest, padding, zeros}
 
@@ -19,15 +20,11 @@ marked_is n rest ys same lt =
     ∙ ap (λ t. set (rest ++ t) (length rest) 128) (zeros_past (length rest) n lt)
     ∙ set_at rest 0 (replicate (n - 1 - length rest) 0) 128 (length rest) refl
 
-eight_bytes : (x : ℕ) → big_endian 8 x
-    ≡ (x / 72057594037927936 % 256) ∷ (x / 281474976710656 % 256) ∷ (x / 1099511627776 % 256) ∷ (x / 4294967296 % 256) ∷ (x / 16777216 % 256)
-    ∷ (x / 65536 % 256) ∷ (x / 256 % 256) ∷ (x % 256) ∷ []
+high_first : (k x : ℕ) → bytes_high_first k x ≡ big_endian k x
 unfolding big_endian
-eight_bytes x = simp div-one
-
-four_bytes : (x : ℕ) → big_endian 4 x ≡ (x / 16777216 % 256) ∷ (x / 65536 % 256) ∷ (x / 256 % 256) ∷ (x % 256) ∷ []
-unfolding big_endian
-four_bytes x = simp div-one
+high_first zero x = refl
+high_first (suc zero) x = rw div-one
+high_first (suc (suc k)) x = ap (λ t. x / 256 ^ suc k % 256 ∷ t) (high_first (suc k) x)
 
 pub closed_is : (rest : List ℕ) (count end : ℕ) (ys zs : List ℕ) → length rest ≡ count % 64 → end ≡ length rest + 9 + zeros (length rest)
     → ys ≡ rest → zs ≡ to_be_bytes w64 (count * 8 % 2 ^ 64)
@@ -53,21 +50,14 @@ closed_is rest count end ys zs fill far same bytes =
     take-put_mid (end - 8) (end - (end - 8)) last zs end n le
     ∙ ap (λ t. t ++ zs) front
     ∙ append_assoc rest (128 ∷ replicate (zeros count) 0) zs
-    ∙ ap (λ t. rest ++ 128 ∷ (replicate (zeros count) 0 ++ t)) (bytes ∙ sym (eight_bytes (count * 8 % 2 ^ 64)) ∙ ap (big_endian 8) times)
+    ∙ ap (λ t. rest ++ 128 ∷ (replicate (zeros count) 0 ++ t)) (bytes ∙ high_first 8 (count * 8 % 2 ^ 64) ∙ ap (big_endian 8) times)
 
-digest_push : (xs : List ℕ) (x : ℕ) → digest (xs ++ x ∷ []) ≡ digest xs ++ big_endian 4 x
+pub digest_is : (value : List ℕ) (quads : List (List ℕ)) → length quads ≡ length value
+    → ((i : ℕ) → i < length value → get_or quads i [] ≡ to_be_bytes w32 (get_or value i 0)) → flat_map (λ x. x) quads ≡ digest value
 unfolding digest
-digest_push [] x = append-nil (big_endian 4 x)
-digest_push (y ∷ xs) x = ap (λ t. big_endian 4 y ++ t) (digest_push xs x) ∙ sym (append_assoc (big_endian 4 y) (digest xs) (big_endian 4 x))
-
-pub digest_step : (out value ys : List ℕ) (i : ℕ) → i < length value → 4 * i ≤ length out → ys ≡ to_be_bytes w32 (get_or value i 0)
-    → take (4 * i) out ≡ digest (take i value)
-    → take (4 * (i + 1)) (put_mid (4 * i) (4 * i + 4 - 4 * i) out ys) ≡ digest (take (i + 1) value)
-digest_step out value ys i lt le bytes before =
-    let four = ap length bytes in
-    let n : 4 * (i + 1) ≡ 4 * i + length ys = omega arith in
-    take-put_mid (4 * i) (4 * i + 4 - 4 * i) out ys (4 * (i + 1)) n le
-    ∙ ap (λ t. t ++ ys) before
-    ∙ ap (λ t. digest (take i value) ++ t) (bytes ∙ sym (four_bytes (get_or value i 0)))
-    ∙ sym (digest_push (take i value) (get_or value i 0))
-    ∙ ap digest (sym (take_more value i 0 lt))
+digest_is [] [] long each = refl
+digest_is [] (quad ∷ quads) long each = absurd (omega arith)
+digest_is (x ∷ value) [] long each = absurd (omega arith)
+digest_is (x ∷ value) (quad ∷ quads) long each =
+    ap (λ q. q ++ flat_map (λ x. x) quads) (each 0 (omega arith) ∙ high_first 4 x)
+    ∙ ap (λ t. big_endian 4 x ++ t) (digest_is value quads (omega arith) (λ i lt. each (suc i) (omega arith)))

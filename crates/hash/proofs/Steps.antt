@@ -8,10 +8,6 @@ use Rattle.std.proofs.lemmas.List.Sums.{fold_more, fold-append}
 use Rattle.std.proofs.lemmas.Slice.Zip.{length-zip, get_or-zip}
 use Rattle.hash.specs.Sha256.{add, sigma_0, sigma_1, word, words, next, more, extend, round, rounds, round_constants}
 
-pub words_none : (b : List ℕ) → words 0 b ≡ []
-unfolding words
-words_none b = refl
-
 words_more : (n : ℕ) (b : List ℕ) → words (n + 1) b ≡ words n b ++ word n b ∷ []
 unfolding words
 words_more n b = rw add-one
@@ -37,10 +33,6 @@ words_step w b quads n t x high lt all now before =
     ∙ ap (λ y. words t b ++ y ∷ []) (now ∙ ap (λ qs. from_be_bytes w32 (get_or qs t [])) all ∙ word_of n t b lt)
     ∙ sym (words_more t b)
 
-pub extend_none : (w : List ℕ) → extend 0 w ≡ w
-unfolding extend
-extend_none w = refl
-
 extend_more : (k : ℕ) (w : List ℕ) → extend (k + 1) w ≡ more (extend k w)
 unfolding extend
 extend_more k w = rw add-one
@@ -59,17 +51,17 @@ next_is w t low high =
     let d : t - 16 < t = omega arith in
     rw (n, get_or-take t w (t - 2) 0 a, get_or-take t w (t - 7) 0 b, get_or-take t w (t - 15) 0 c, get_or-take t w (t - 16) 0 d)
 
-pub extended : (w first : List ℕ) (t x : ℕ) → 16 ≤ t → t < length w → x ≡ follows w t → take t w ≡ extend (t - 16) first
-    → take (t + 1) (set w t x) ≡ extend (t + 1 - 16) first
+pub extended : (w first : List ℕ) (t n x : ℕ) → n ≡ t + 1 → 16 ≤ t → t < length w → x ≡ follows w t → take t w ≡ extend (t - 16) first
+    → take n (set w t x) ≡ extend (n - 16) first
 unfolding more
-extended w first t x low high word same =
-    let e : t + 1 - 16 ≡ t - 16 + 1 = omega arith in
+extended w first t n x past low high word same =
+    let e : n - 16 ≡ t - 16 + 1 = omega arith in
     let le : t ≤ length w = omega arith in
-    take_more_set w t x high
+    ap (λ k. take k (set w t x)) past
+    ∙ take_more_set w t x high
     ∙ ap (λ y. take t w ++ y ∷ []) (word ∙ sym (next_is w t low le))
     ∙ ap more same
-    ∙ sym (extend_more (t - 16) first)
-    ∙ ap (λ k. extend k first) (sym e)
+    ∙ sym (ap (λ k. extend k first) e ∙ extend_more (t - 16) first)
 
 -- one round, with its constant and its word, and a round for each of some pairs of these
 abbrev pub round_of : List ℕ → ℕ × ℕ → List ℕ

@@ -11,9 +11,7 @@ fn digest_of(value: [u32; 8]) -> [u8; 32]
     ensures { result ≡ digest value }
 {
     let mut out = [0; 32];
-    for (i, word) in value.iter().enumerate() {
-        out[4 * i..4 * i + 4].copy_from_slice(&word.to_be_bytes());
-    }
+    out.copy_from_slice(value.map(u32::to_be_bytes).as_flattened());
     out
 }
 

@@ -1,10 +1,12 @@
-use Rattle.std.proofs.Common.{◌/◌, length, sym, refl, arith}
+use Rattle.std.proofs.Common.{◌/◌, length, refl, arith}
 use Rattle.std.proofs.lemmas.List.{length-set}
-use Rattle.hash.proofs.Steps.{words_none, words_step}
+use Rattle.hash.specs.Sha256.{words}
+use Rattle.hash.proofs.Steps.{words_step}
 use Rattle.hash.proofs.blocks.first_words.Goals as goal
 
 pub loop-t-init : goal.loop-t-init
-loop-t-init c = (sym (words_none c.args.block.now), refl)
+unfolding words
+loop-t-init c = (refl, refl)
 
 pub loop-t-preserved : goal.loop-t-preserved
 loop-t-preserved c = (
