@@ -92,10 +92,10 @@ module _ (siglen seclen : ℕ) (fits : List ℕ → List ℕ → Bool) (m : Mean
 
 -- what was asked last of a signing that was ready decides
 pub sign_found : (siglen : ℕ) (fits : List ℕ → List ℕ → Bool) (m : Meaning) (key turn : ℕ) (digest secret : List ℕ) (room : ℕ) (r : Ready) → IsReady siglen (m.public key) key turn digest secret room r
-    → (fit is_spent : Bool) → fit ≡ fits secret r.public → is_spent ≡ m.spent key turn → (o : Option Refusal) → late_refusal r.key fit is_spent ≡ o → sign_refusal siglen 32 fits m key turn digest secret room ≡ o
+    → (fit is_spent : Bool) → fit ≡ fits secret r.public → is_spent ≡ m.spent key turn → (o : Option Refusal) → late_refusal r.place.key fit is_spent ≡ o → sign_refusal siglen 32 fits m key turn digest secret room ≡ o
 sign_found siglen fits m key turn digest secret room r ready fit is_spent same spent o found =
     sign_late siglen 32 fits m key turn digest secret room r.public ready.unrefused ready.public_known
-    ∙ rw (sym same, sym spent, sym ready.same_key) found
+    ∙ rw (sym same, sym spent, sym ready.place.1) found
 
 -- a call's answer, by what is found
 pub says_err : (o : Option Refusal) (e : Refusal) → o ≡ Some e → ◌≡◌ {A = Result Unit Refusal} (Err e) (answer o tt)

@@ -24,7 +24,6 @@ pub fn refusal(reason: Reason, key: u8) -> Refusal
 // public key of its key.
 #[derive(Clone, Copy)]
 pub struct Ready<'d, 's> {
-    pub key: u8,
     pub place: Place,
     pub digest: &'d [u8; DIGEST_LEN],
     pub secret: &'s [u8; SECRET_LEN],
@@ -34,13 +33,13 @@ pub struct Ready<'d, 's> {
 impl Ready<'_, '_> {
     // What is asked last: whether the secret leads to the public key, and whether the turn is spent.
     pub fn clear(&self, root: &[u8; PUBLIC_LEN], is_spent: bool) -> Result<(), Refusal>
-        ensures { result ≡ answer (late_refusal self.now.key (bytes_eq root.now self.now.public) is_spent) tt }
+        ensures { result ≡ answer (late_refusal self.now.place.key (bytes_eq root.now self.now.public) is_spent) tt }
     {
         if *root != self.public {
-            return Err(refusal(Reason::Secret, self.key));
+            return Err(refusal(Reason::Secret, self.place.key));
         }
         if is_spent {
-            return Err(refusal(Reason::TurnSpent, self.key));
+            return Err(refusal(Reason::TurnSpent, self.place.key));
         }
         Ok(())
     }

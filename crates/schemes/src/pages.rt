@@ -99,7 +99,6 @@ impl<T: Copy> Pages<T> {
             return Err(refusal(Reason::NotEnrolled, message.key));
         };
         Ok(Ready {
-            key: message.key,
             place,
             digest,
             secret,

@@ -7,8 +7,8 @@ pub const TURNS: usize = 32;
 // A key and a turn, of those that there are.
 #[derive(Clone, Copy)]
 pub struct Place {
-    pub(crate) key: u8,
-    pub(crate) turn: u8,
+    pub key: u8,
+    pub turn: u8,
     ghost key_low: { key < 16 },
     ghost turn_low: { turn < 32 },
 }
