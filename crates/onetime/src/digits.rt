@@ -48,6 +48,7 @@ pub(crate) fn digits_of(digest: &[u8; DIGEST_LEN]) -> [u8; CHAINS]
 }
 
 // A worked example: the digest of 32 zero bytes has digit sum 960, and so the last digits 3, 12 and 0.
+#[tactic(auto, unfolding(crate::specs::Digits::digits_of))]
 pub fn last_digits_of_zeros() -> [u8; 3]
     ensures digits { result ≡ 3 ∷ (12 ∷ (0 ∷ [])) }
     ensures sum { digit_sum (nibbles (replicate 32 0)) ≡ 960 }

@@ -9,7 +9,7 @@ ghost use Rattle.std.proofs.Common.{rules};
 
 use crate::chains::chains_at;
 use crate::digits::digits_of;
-use crate::parts::{CHAINS_LEN, Hash, SIGNATURE_LEN};
+use crate::parts::{CHAINS_LEN, Hash, SIGNATURE_LEN, whole};
 use crate::paths::leads_to;
 use crate::tree::Tree;
 use schemes::{DIGEST_LEN, KEYS, PUBLIC_LEN, PublicKeys, SECRET_LEN, Scheme, TURNS, refusal};
@@ -110,7 +110,7 @@ impl OneTime {
         let public = self
             .publics
             .signer(key, turn, digest, secret, SIGNATURE_LEN, room)?;
-        let tree = Tree::of(secret.as_array().unwrap());
+        let tree = Tree::of(whole(secret));
         if !same_bytes(&tree.root, &public) {
             return Err(refusal(Reason::Secret, key));
         }
@@ -187,8 +187,7 @@ impl Scheme for OneTime {
         ensures bytes { SignatureWritten result secret.now turn digest.now signature.new }
     {
         let tree = self.clear_to_sign(key, turn, digest, secret, signature.len())?;
-        let (digest, secret) = (digest.as_array().unwrap(), secret.as_array().unwrap());
-        write_signature(&tree, turn, digest, secret, signature);
+        write_signature(&tree, turn, whole(digest), whole(secret), signature);
         self.spend(key, turn);
         Ok(())
     }

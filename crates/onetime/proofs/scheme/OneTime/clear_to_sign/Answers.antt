@@ -17,8 +17,7 @@ returns-then-not-same_bytes c =
     let m = onetime_means c.args.self.now in
     let secret = c.args.secret.now in
     let ready = c.in_ok-public.ensures in
-    let same = (rw c.unwrap.ensures at c.as_array.ensures.cases).same in
-    let top = c.of-tree.ensures.root ∙ ap root same in
+    let top = c.of-tree.ensures.root ∙ ap root c.whole.ensures in
     let wrong : fits_onetime secret c.in_ok-public.public ≡ false = ap (λ (x : List ℕ). bytes_eq x c.in_ok-public.public) (sym top) ∙ sym c.if-not-same_bytes.ensures in
     sign_secret 2304 32 fits_onetime m c.args.key c.args.turn c.args.digest.now secret c.args.room _ ready.unrefused ready.public_known wrong ∙ ap Some (sym c.refusal.ensures)
 
@@ -27,8 +26,7 @@ returns-then-self-key c =
     let m = onetime_means c.args.self.now in
     let secret = c.args.secret.now in
     let ready = c.in_ok-public.ensures in
-    let same = (rw c.unwrap.ensures at c.as_array.ensures.cases).same in
-    let top = c.of-tree.ensures.root ∙ ap root same in
+    let top = c.of-tree.ensures.root ∙ ap root c.whole.ensures in
     let right : fits_onetime secret c.in_ok-public.public ≡ true = ap (λ (x : List ℕ). bytes_eq x c.in_ok-public.public) (sym top) ∙ sym c.if-not-same_bytes.ensures in
     sign_spent 2304 32 fits_onetime m c.args.key c.args.turn c.args.digest.now secret c.args.room _ ready.unrefused ready.public_known right c.if-self-key.true ∙ ap Some (sym c.refusal-then-self-key.ensures)
 
@@ -39,8 +37,7 @@ returns c =
     let digest = c.args.digest.now in
     let public = c.in_ok-public.public in
     let ready = c.in_ok-public.ensures in
-    let same = (rw c.unwrap.ensures at c.as_array.ensures.cases).same in
-    let top = c.of-tree.ensures.root ∙ ap root same in
+    let top = c.of-tree.ensures.root ∙ ap root c.whole.ensures in
     let right : fits_onetime secret public ≡ true = ap (λ (x : List ℕ). bytes_eq x public) (sym top) ∙ sym c.if-not-same_bytes.ensures in
     record {
       unrefused = sign_none 2304 32 fits_onetime (onetime_means o) c.args.key c.args.turn digest secret c.args.room _ ready.unrefused ready.public_known right c.if-self-key.false;
@@ -49,6 +46,6 @@ returns c =
       digest_length = ready.digest_length;
       secret_length = ready.secret_length;
       room_enough = ready.room_enough;
-      grown = rw same at c.of-tree.ensures;
+      grown = rw c.whole.ensures at c.of-tree.ensures;
       accepted = will_accept o c.args.key c.args.turn digest secret public ready.public_known right ready.turn_low ready.digest_length;
     }
