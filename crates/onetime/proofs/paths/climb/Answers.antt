@@ -5,9 +5,6 @@ use Rattle.onetime.proofs.Siblings.{above_is, climb_none, climb_more, parent_eve
 use Rattle.onetime.proofs.paths.climb.Goals as goal
 use Rattle.onetime.proofs.paths.climb.Goals.{then-turn-level-eq0, else-turn-level-eq0}
 
-pub loop-level-init : goal.loop-level-init
-loop-level-init c = climb_none (λ level. get_or c.args.path.now level []) c.args.turn c.args.bottom
-
 pub loop-level-preserved : goal.loop-level-preserved
 loop-level-preserved c =
     let turn = c.args.turn in
