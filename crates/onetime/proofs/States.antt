@@ -1,6 +1,6 @@
-use Rattle.std.proofs.Common.{◌≡◌, ℕ, ◌<◌, Bool, true, false, cond, ◌&&◌, ◌||◌, eqb, List, length, is_some, Some, Option, sym, refl, ap, ◌∙◌, inl, inr, arith}
+use Rattle.std.proofs.Common.{◌≡◌, ℕ, ◌<◌, true, false, cond, eqb, List, length, is_some, Some, Option, sym, refl, ap, ◌∙◌, inl, inr, arith}
 use Rattle.std.proofs.lemmas.Slice.Eq.{bytes_eq-Decides}
-use Rattle.std.proofs.lemmas.Bool.{and_left, and_parts, cases_eq, cond-false, cond-true, eq-eqb, false≢true, ne_eqb}
+use Rattle.std.proofs.lemmas.Bool.{and_parts, cases_eq, cond-false, cond-true, eq-eqb, false≢true, ne_eqb}
 use Rattle.schemes.specs.Calls.{NewKey}
 use Rattle.schemes.specs.Keys.{public_of}
 use Rattle.schemes.specs.Meaning.{Keeps}
@@ -40,31 +40,6 @@ module _ (o o' : OneTime) where
           spent = λ k t ne. spent k t ∙ cond-false (eqb k key) false ((onetime_means o).spent k t) (ne_eqb k key ne);
           accepts = other_accepts;
         }
-
-  module _ (key turn : ℕ)
-      (publics : o'.publics ≡ o.publics)
-      (spent : (k t : ℕ) → (onetime_means o').spent k t ≡ cond (eqb k key && eqb t turn) true ((onetime_means o).spent k t)) where
-    same_public : (k : ℕ) → public_of o'.publics k ≡ public_of o.publics k
-    same_public k = ap (λ x. public_of x k) publics
-
-    same_accepts : (k t : ℕ) (d s : List ℕ) → accepted_by (public_of o'.publics k) t d s ≡ accepted_by (public_of o.publics k) t d s
-    same_accepts k t d s = ap (λ (x : Option (List ℕ)). accepted_by x t d s) (same_public k)
-
-    pub sign_keeps : Keeps key (onetime_means o) (onetime_means o')
-    sign_keeps =
-        record {
-          stays = λ k t d s yes. same_accepts k t d s ∙ yes;
-          public = λ k ne. same_public k;
-          spent = λ k t ne. spent k t ∙ cond-false (eqb k key && eqb t turn) true ((onetime_means o).spent k t) (and_left _ _ (ne_eqb k key ne));
-          accepts = λ k t d s ne. same_accepts k t d s;
-        }
-
-    either : (t : ℕ) (b : Bool) → cond b true ((onetime_means o).spent key t) ≡ (b || (onetime_means o).spent key t)
-    either t true = refl
-    either t false = refl
-
-    pub spends_one : (t : ℕ) → (onetime_means o').spent key t ≡ (eqb t turn || (onetime_means o).spent key t)
-    spends_one t = spent key t ∙ ap (λ (b : Bool). cond (b && eqb t turn) true ((onetime_means o).spent key t)) (eq-eqb key key refl) ∙ either t (eqb t turn)
 
 -- what a fitting secret makes is accepted
 pub will_accept : (o : OneTime) (key turn : ℕ) (digest secret public : List ℕ) → public_of o.publics key ≡ Some public → fits_onetime secret public ≡ true → turn < 32 → length digest ≡ 32 → (s : List ℕ) → s ≡ signature secret turn digest → (onetime_means o).accepts key turn digest s ≡ true

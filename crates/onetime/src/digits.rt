@@ -36,6 +36,7 @@ fn last_digits(n: u16) -> [u8; 3]
 }
 
 // The digits of a digest, one for each chain: two of each byte, and three of what those leave open in all.
+#[tactic(auto, using(crate::proofs::Nibbles::nibbles_small, crate::proofs::Nibbles::digits_written))]
 pub(crate) fn digits_of(digest: &[u8; DIGEST_LEN]) -> [u8; CHAINS]
     ensures { result ≡ digits_of digest.now }
 {

@@ -8,7 +8,7 @@ use crate::parts::{CHAINS, HASH_LEN, Hash, LEVELS, SIGNATURE_LEN, leaf, node, wh
 use schemes::DIGEST_LEN;
 
 // Up the Merkle path of a signature, from the leaf of its turn.
-#[tactic(auto, unfolding(crate::specs::Trees::climb))]
+#[tactic(auto, using(crate::proofs::Siblings::above_is), unfolding(crate::specs::Trees::climb))]
 fn climb(turn: u8, bottom: Hash, path: &[Hash; LEVELS]) -> Hash
     ensures { result ≡ climb (λ level. slice_index_or path.now level []) turn bottom 5 }
 {

@@ -29,4 +29,4 @@ returns c =
     ∙ ap (walk turn i (digit digest i) (15 - digit digest i)) (chain i low)) in
     c.climb.ensures
     ∙ ap (λ (x : List ℕ). climb (λ v. get_or path v []) turn x 5) (c.leaf.ensures ∙ ap (leaf turn) ends)
-    ∙ climb_same (λ v. get_or path v []) turn _ (λ v. hash_at (67 + v) s) 5 sibling
+    ∙ climb_same (λ v. get_or path v []) (λ v. hash_at (67 + v) s) turn _ 5 sibling
