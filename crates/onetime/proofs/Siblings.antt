@@ -1,4 +1,4 @@
-use Rattle.std.proofs.Common.{◌≡◌, ℕ, zero, suc, ◌+◌, ◌-◌, ◌/◌, ◌%◌, ◌^◌, ◌<◌, eqb, List, sym, refl, ap, ◌∙◌, add-one, arith}
+use Rattle.std.proofs.Common.{◌≡◌, ℕ, zero, suc, ◌+◌, ◌-◌, ◌/◌, ◌%◌, ◌^◌, ◌<◌, eqb, List, sym, refl, ap, ◌∙◌, arith}
 use Rattle.std.proofs.Math.Nat.{div-div-eq-div-mul, div-one, pow-suc}
 use Rattle.std.proofs.lemmas.Bool.{cond-true, cond-false, eq-eqb, ne_eqb}
 use Rattle.onetime.specs.Hashes.{node}
@@ -15,22 +15,12 @@ beside_even i h = cond-true (eqb (i % 2) 0) (i + 1) (i - 1) (eq-eqb (i % 2) 0 h)
 pub beside_odd : (i : ℕ) → (i % 2 ≡ 0 → ⊥) → beside i ≡ i - 1
 beside_odd i h = cond-false (eqb (i % 2) 0) (i + 1) (i - 1) (ne_eqb (i % 2) 0 h)
 
--- one level up
-module _ (siblings : ℕ → List ℕ) (turn : ℕ) (bottom : List ℕ) where
-  pub climb_none : bottom ≡ climb siblings turn bottom 0
-  unfolding climb
-  climb_none = refl
-
-  pub climb_more : (v : ℕ) → climb siblings turn bottom (v + 1) ≡ parent v (above turn v) (climb siblings turn bottom v) (siblings v)
-  unfolding climb
-  climb_more v = ap (climb siblings turn bottom) (add-one v)
-
-  pub climb_same : (others : ℕ → List ℕ) (n : ℕ) → ((v : ℕ) → v < n → siblings v ≡ others v) → climb siblings turn bottom n ≡ climb others turn bottom n
-  unfolding climb
-  climb_same others zero same = refl
-  climb_same others (suc n) same =
-      ap (λ (x : List ℕ). parent n (above turn n) x (siblings n)) (climb_same others n (λ v h. same v (omega arith)))
-      ∙ ap (λ (x : List ℕ). parent n (above turn n) (climb others turn bottom n) x) (same n (omega arith))
+pub climb_same : (siblings others : ℕ → List ℕ) (turn : ℕ) (bottom : List ℕ) (n : ℕ) → ((v : ℕ) → v < n → siblings v ≡ others v) → climb siblings turn bottom n ≡ climb others turn bottom n
+unfolding climb
+climb_same siblings others turn bottom zero same = refl
+climb_same siblings others turn bottom (suc n) same =
+    ap (λ (x : List ℕ). parent n (above turn n) x (siblings n)) (climb_same siblings others turn bottom n (λ v h. same v (omega arith)))
+    ∙ ap (λ (x : List ℕ). parent n (above turn n) (climb others turn bottom n) x) (same n (omega arith))
 
 pub parent_even : (v i : ℕ) (here other : List ℕ) → i % 2 ≡ 0 → parent v i here other ≡ node v here other
 parent_even v i here other h = cond-true (eqb (i % 2) 0) (node v here other) (node v other here) (eq-eqb (i % 2) 0 h)

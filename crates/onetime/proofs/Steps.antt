@@ -1,17 +1,9 @@
 use Rattle.std.proofs.Common.{◌≡◌, ℕ, zero, suc, ◌+◌, List, length, refl, add-zero, add_assoc, add-suc}
 use Rattle.hash.specs.Sha256.{sha_256_length}
 use Rattle.onetime.specs.Chains.{chain_at, walk}
-use Rattle.onetime.specs.Hashes.{chain_start, chain_step}
+use Rattle.onetime.specs.Hashes.{chain_start}
 
 module _ (turn i : ℕ) where
-  pub walk_none : (from n : ℕ) (value : List ℕ) → n ≡ 0 → value ≡ walk turn i from n value
-  unfolding walk
-  walk_none from n value e = rw e refl
-
-  pub walk_more : (from at m n : ℕ) (value start : List ℕ) → value ≡ walk turn i from m start → at ≡ from + m → n ≡ suc m → chain_step turn i at value ≡ walk turn i from n start
-  unfolding walk
-  walk_more from at m n value start e p q = rw (e, p, q) refl
-
   -- a chain walked to a position and then on is the chain walked all the way
   pub walk_on : (from m n : ℕ) (value : List ℕ) → walk turn i (from + m) n (walk turn i from m value) ≡ walk turn i from (m + n) value
   unfolding walk

@@ -102,7 +102,7 @@ module _ (secret digest : List ℕ) (turn : ℕ) where
 
   pub leads_to_root : turn ≤ 31 → leads_to turn digest (signature secret turn digest) ≡ root secret
   leads_to_root low =
-      climb_same (λ level. hash_at (67 + level) (signature secret turn digest)) turn (leaf turn (finished_chains turn digest (signature secret turn digest))) (sibling secret turn) 5 path_is_path
+      climb_same (λ level. hash_at (67 + level) (signature secret turn digest)) (sibling secret turn) turn (leaf turn (finished_chains turn digest (signature secret turn digest))) 5 path_is_path
       ∙ ap (λ (x : List ℕ). climb (sibling secret turn) turn (leaf turn x) 5) ends_are_ends
       ∙ paths_lead_up secret turn low
 

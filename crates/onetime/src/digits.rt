@@ -36,6 +36,7 @@ fn last_digits(n: u16) -> [u8; 3]
 }
 
 // The digits of a digest, one for each chain: two of each byte, and three of what those leave open in all.
+#[tactic(auto, using(crate::proofs::Nibbles::nibbles_small, crate::proofs::Nibbles::digits_written))]
 pub(crate) fn digits_of(digest: &[u8; DIGEST_LEN]) -> [u8; CHAINS]
     ensures { result ≡ digits_of digest.now }
 {
@@ -48,6 +49,7 @@ pub(crate) fn digits_of(digest: &[u8; DIGEST_LEN]) -> [u8; CHAINS]
 }
 
 // A worked example: the digest of 32 zero bytes has digit sum 960, and so the last digits 3, 12 and 0.
+#[tactic(auto, unfolding(crate::specs::Digits::digits_of))]
 pub fn last_digits_of_zeros() -> [u8; 3]
     ensures digits { result ≡ 3 ∷ (12 ∷ (0 ∷ [])) }
     ensures sum { digit_sum (nibbles (replicate 32 0)) ≡ 960 }

@@ -21,6 +21,14 @@ const LEAF_LEN: usize = 2 + CHAINS_LEN;
 
 const NODE_LEN: usize = 2 + 2 * HASH_LEN;
 
+// A slice of N elements, as an array.
+pub(crate) fn whole<T, const N: usize>(elements: &[T]) -> &[T; N]
+    requires { length elements.now ≡ N }
+    ensures { result.now ≡ elements.now }
+{
+    elements.as_array().unwrap()
+}
+
 // The hash of N bytes: those of a head, and of a body behind it.
 pub(crate) fn hash_of<const N: usize>(head: &[u8], body: &[u8]) -> Hash
     requires whole { length head.now + length body.now ≡ N }

@@ -4,10 +4,11 @@ ghost use Rattle.onetime.specs.Trees.{climb};
 
 use crate::chains::finished_chains;
 use crate::digits::digits_of;
-use crate::parts::{CHAINS, HASH_LEN, Hash, LEVELS, SIGNATURE_LEN, leaf, node};
+use crate::parts::{CHAINS, HASH_LEN, Hash, LEVELS, SIGNATURE_LEN, leaf, node, whole};
 use schemes::DIGEST_LEN;
 
 // Up the Merkle path of a signature, from the leaf of its turn.
+#[tactic(auto, using(crate::proofs::Siblings::above_is), unfolding(crate::specs::Trees::climb))]
 fn climb(turn: u8, bottom: Hash, path: &[Hash; LEVELS]) -> Hash
     ensures { result ≡ climb (λ level. slice_index_or path.now level []) turn bottom 5 }
 {
@@ -30,5 +31,5 @@ pub(crate) fn leads_to(turn: u8, digest: &[u8; DIGEST_LEN], signature: &[u8; SIG
     let (hashes, _) = signature.as_chunks::<HASH_LEN>();
     let (chains, path) = hashes.split_first_chunk::<CHAINS>().unwrap();
     let ends = finished_chains(turn, &digits_of(digest), chains);
-    climb(turn, leaf(turn, &ends), path.as_array().unwrap())
+    climb(turn, leaf(turn, &ends), whole(path))
 }

@@ -32,15 +32,20 @@ fn root_of(secret: &[u8]) -> Option<[u8; PUBLIC_LEN]>
 }
 
 // Writes a signature into the front of a lent buffer, with the tree of the secret.
-fn write_signature(tree: &Tree, turn: u8, digest: &[u8; DIGEST_LEN], secret: &Hash, out: &mut [u8])
-    requires low { turn < 32 }
+fn write_signature(tree: &Tree, ready: &Ready<'_, '_>, out: &mut [u8])
     requires room { 2304 ≤ length out.old }
-    requires grown { Grown secret.now tree.now }
-    ensures front { take 2304 out.new ≡ signature secret.now turn digest.now }
+    requires grown { Grown ready.now.secret.now tree.now }
+    ensures front { take 2304 out.new ≡ signature ready.now.secret.now ready.now.place.turn ready.now.digest.now }
     ensures rest { drop 2304 out.new ≡ drop 2304 out.old }
 {
-    let chains = chains_at(turn, &digits_of(digest), secret);
-    let path = tree.path(turn);
+    let Ready {
+        place,
+        digest,
+        secret,
+        ..
+    } = *ready;
+    let chains = chains_at(place.turn, &digits_of(digest), secret);
+    let path = tree.path(place);
     out[..CHAINS_LEN].copy_from_slice(chains.as_flattened());
     out[CHAINS_LEN..SIGNATURE_LEN].copy_from_slice(path.as_flattened());
 }
@@ -122,7 +127,7 @@ impl Scheme for OneTime {
         ensures bytes { SignatureWritten result secret.now message.now.turn message.now.digest.now signature.new }
     {
         let (ready, tree) = self.clear_to_sign(message, secret, signature.len())?;
-        write_signature(&tree, message.turn, ready.digest, ready.secret, signature);
+        write_signature(&tree, &ready, signature);
         self.pages.put(ready.place, true);
         Ok(())
     }

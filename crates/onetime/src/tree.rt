@@ -5,7 +5,7 @@ ghost use Rattle.onetime.specs.Trees.{Grown, beside, sibling};
 
 use crate::chains::leaf_of;
 use crate::parts::{Hash, LEVELS, node};
-use schemes::TURNS;
+use schemes::{Place, TURNS};
 use std::array;
 
 // All nodes of a secret's tree, level by level from the leaves up.
@@ -67,10 +67,10 @@ impl Tree {
     }
 
     // The siblings of a turn's leaf and of the nodes above it, from the leaf upward.
-    pub(crate) fn path(&self, turn: u8) -> [Hash; LEVELS]
-        requires { turn < 32 }
-        ensures { (secret : List ℕ) → Grown secret self.now → (level : ℕ) → level < 5 → slice_index_or result level [] ≡ sibling secret turn level }
+    pub(crate) fn path(&self, place: Place) -> [Hash; LEVELS]
+        ensures { (secret : List ℕ) → Grown secret self.now → (level : ℕ) → level < 5 → slice_index_or result level [] ≡ sibling secret place.turn level }
     {
+        let turn = place.turn;
         [
             self.leaves[beside(turn)],
             self.level_1[beside(turn / 2)],

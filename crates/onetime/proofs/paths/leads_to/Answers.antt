@@ -16,12 +16,11 @@ returns c =
     let digest = c.args.digest.now in
     let hashes = c.as_chunks.result.0.now in
     let chains = c.unwrap.result.0.now in
-    let path = c.unwrap-2.result.now in
+    let path = c.whole.result.now in
     let first = rw c.unwrap.ensures at c.split_first_chunk.ensures.cases in
-    let last = rw c.unwrap-2.ensures at c.as_array.ensures.cases in
     let at = λ (i : ℕ) (low : i < 72). ap (λ (l : List (List ℕ)). get_or l i []) c.as_chunks.ensures.front ∙ hash_chunk (length s / 32) i s (omega (arith, c.told-signature)) in
     let chain = λ (i : ℕ) (low : i < 67). ap (λ (l : List (List ℕ)). get_or l i []) first.0 ∙ get_or-take 67 hashes i [] low ∙ at i (omega arith) in
-    let sibling = λ (v : ℕ) (low : v < 5). ap (λ (l : List (List ℕ)). get_or l v []) (last.same ∙ first.1) ∙ get_or-drop 67 hashes v [] ∙ at (67 + v) (omega arith) in
+    let sibling = λ (v : ℕ) (low : v < 5). ap (λ (l : List (List ℕ)). get_or l v []) (c.whole.ensures ∙ first.1) ∙ get_or-drop 67 hashes v [] ∙ at (67 + v) (omega arith) in
     let ends =
     flattened (λ i. walk turn i (digit digest i) (15 - digit digest i) (hash_at i s)) c.finished_chains-ends.result 67 (search rules)
     (λ i low.
@@ -30,4 +29,4 @@ returns c =
     ∙ ap (walk turn i (digit digest i) (15 - digit digest i)) (chain i low)) in
     c.climb.ensures
     ∙ ap (λ (x : List ℕ). climb (λ v. get_or path v []) turn x 5) (c.leaf.ensures ∙ ap (leaf turn) ends)
-    ∙ climb_same (λ v. get_or path v []) turn _ (λ v. hash_at (67 + v) s) 5 sibling
+    ∙ climb_same (λ v. get_or path v []) (λ v. hash_at (67 + v) s) turn _ 5 sibling

@@ -18,9 +18,9 @@ copy_from_slice-requires c =
 
 pub returns : goal.returns
 returns c =
-    let turn = c.args.turn in
-    let digest = c.args.digest.now in
-    let secret = c.args.secret.now in
+    let turn = c.args.ready.now.place.turn in
+    let digest = c.args.ready.now.digest.now in
+    let secret = c.args.ready.now.secret.now in
     let lent = c.args.out.now in
     let chains =
     c.copy_from_slice.ensures.after ∙ c.as_flattened.ensures.value

@@ -5,7 +5,7 @@ use Rattle.onetime.proofs.tree.Tree.path.Goals as goal
 
 pub returns : goal.returns
 returns c = λ secret grown level low.
-    let turn = c.args.turn in
+    let turn = c.args.place.turn in
     path_stands secret turn _ _ _ _ _
     (sibling_stands secret 0 32 turn _ _ _ grown.leaves c.beside.ensures.is (omega arith) (omega (arith, above_is turn 0)))
     (sibling_stands secret 1 16 turn _ _ _ grown.level_1 c.beside-2.ensures.is (omega arith) (sym (above_is turn 1)))
