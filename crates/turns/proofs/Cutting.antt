@@ -10,11 +10,11 @@ module _ (xs : List ℕ) where
   step : (i : ℕ) → i < length xs → big_endian (take (i + 1) xs) ≡ big_endian (take i xs) * 256 + get_or xs i 0
   step i h = fold_more (λ a x. a * 256 + x) 0 xs i 0 h
 
-  number_4 : length xs ≡ 4 → from_be_bytes w32 xs ≡ big_endian xs
+  pub number_4 : length xs ≡ 4 → from_be_bytes w32 xs ≡ big_endian xs
   number_4 h =
       omega (arith, ap big_endian (take_all 4 xs (omega arith)), step 0 (omega arith), step 1 (omega arith), step 2 (omega arith), step 3 (omega arith))
 
-  number_8 : length xs ≡ 8 → from_be_bytes w64 xs ≡ big_endian xs
+  pub number_8 : length xs ≡ 8 → from_be_bytes w64 xs ≡ big_endian xs
   number_8 h =
       omega (arith, ap big_endian (take_all 8 xs (omega arith)), step 0 (omega arith), step 1 (omega arith), step 2 (omega arith), step 3 (omega arith), step 4 (omega arith), step 5 (omega arith), step 6 (omega arith), step 7 (omega arith))
 
@@ -27,24 +27,24 @@ module _ (bytes : List ℕ) where
   behind : {xs part rest : List ℕ} (front n : ℕ) → xs ≡ drop front bytes → Cut n xs part rest → (part ≡ take n (drop front bytes)) × (rest ≡ drop (front + n) bytes)
   behind front n known cut = (cut.0 ∙ ap (take n) known, cut.1 ∙ ap (drop n) known ∙ drop-drop n front bytes)
 
-  at : (small : List ℕ) (k : ℕ) → k < 4 → small ≡ take 4 (drop 9 bytes) → get_or small k 0 ≡ get_or bytes (9 + k) 0
-  at small k h known = ap (λ xs. get_or xs k 0) known ∙ get_or-take 4 (drop 9 bytes) k 0 h ∙ get_or-drop 9 bytes k 0
+  at : (one_byte : List ℕ) (k : ℕ) → k < 4 → one_byte ≡ take 4 (drop 9 bytes) → get_or one_byte k 0 ≡ get_or bytes (9 + k) 0
+  at one_byte k h known = ap (λ xs. get_or xs k 0) known ∙ get_or-take 4 (drop 9 bytes) k 0 h ∙ get_or-drop 9 bytes k 0
 
   -- six parts, cut off one behind another, and what is read from them
-  pub parts_are : {mark docket small seat0 seat1 last r1 r2 r3 r4 content : List ℕ} {number n0 n1 : ℕ} → Cut 5 bytes mark r1 → Cut 4 r1 docket r2 → Cut 4 r2 small r3 → Cut 8 r3 seat0 r4 → Cut 8 r4 seat1 last → length last ≡ 67
+  pub parts_are : {mark docket one_byte seat0 seat1 last r1 r2 r3 r4 content : List ℕ} {number n0 n1 : ℕ} → Cut 5 bytes mark r1 → Cut 4 r1 docket r2 → Cut 4 r2 one_byte r3 → Cut 8 r3 seat0 r4 → Cut 8 r4 seat1 last → length last ≡ 67
       → number ≡ from_be_bytes w32 docket → n0 ≡ from_be_bytes w64 seat0 → n1 ≡ from_be_bytes w64 seat1 → content ≡ last
       → (length bytes ≡ 96)
       × (record {
         mark = mark;
         docket = number;
-        at_match = get_or small 0 0;
-        code = get_or small 1 0;
-        turn = get_or small 2 0;
-        kind = get_or small 3 0;
+        at_match = get_or one_byte 0 0;
+        code = get_or one_byte 1 0;
+        turn = get_or one_byte 2 0;
+        kind = get_or one_byte 3 0;
         position = record { amounts = record { seat0 = n0; seat1 = n1 }; «data» = content };
       } ≡ parts_of bytes)
   unfolding docket_of position_of
-  parts_are {mark} {docket} {small} {seat0} {seat1} {last} {r1} {r2} {r3} {r4} m d s a b long e e0 e1 f =
+  parts_are {mark} {docket} {one_byte} {seat0} {seat1} {last} {r1} {r2} {r3} {r4} m d s a b long e e0 e1 f =
       let d' = behind 5 4 m.1 d in
       let s' = behind 9 4 d'.1 s in
       let a' = behind 13 8 s'.1 a in
@@ -52,9 +52,9 @@ module _ (bytes : List ℕ) where
       let n = number_4 docket (omega (arith, ap length d.0, length-take 4 r1)) ∙ ap big_endian d'.0 in
       let n0 = number_8 seat0 (omega (arith, ap length a.0, length-take 8 r3)) ∙ ap big_endian a'.0 in
       let n1 = number_8 seat1 (omega (arith, ap length b.0, length-take 8 r4)) ∙ ap big_endian b'.0 in
-      let k0 = at small 0 (omega arith) s'.0 in
-      let k1 = at small 1 (omega arith) s'.0 in
-      let k2 = at small 2 (omega arith) s'.0 in
-      let k3 = at small 3 (omega arith) s'.0 in
+      let k0 = at one_byte 0 (omega arith) s'.0 in
+      let k1 = at one_byte 1 (omega arith) s'.0 in
+      let k2 = at one_byte 2 (omega arith) s'.0 in
+      let k3 = at one_byte 3 (omega arith) s'.0 in
       let x : last ≡ take 67 (drop 29 bytes) = b'.1 ∙ sym (take_all 67 (drop 29 bytes) (omega (arith, length-drop 29 bytes))) in
       (omega arith, cc)

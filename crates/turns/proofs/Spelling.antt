@@ -1,8 +1,9 @@
-use Rattle.std.proofs.Common.{◌≡◌, ℕ, zero, suc, ◌+◌, ◌*◌, ◌/◌, ◌%◌, ◌^◌, ◌<◌, List, [], ◌∷◌, ◌++◌, drop, replicate, append-nil, fold, ap, ◌∙◌, zero-le, mod-eq_of_lt, mul_assoc, add-mul, div-one, arith, lit<}
-use native.Mathlib.Nat.{pow-succ', pow-le-pow_right}
-use lib.Arith.{mod-mul}
+use Rattle.std.proofs.Common.{◌≡◌, ℕ, ◌/◌, ◌%◌, ◌^◌, ◌<◌, List, [], ◌∷◌, ◌++◌, drop, replicate, append-nil, sym, refl, ap, ◌∙◌, div-one, arith}
+use Rattle.std.specs.Int.{w32, w64, to_be_bytes}
 use Rattle.std.proofs.lemmas.List.{take_all}
+use Rattle.std.proofs.lemmas.Nat.{from_be_bytes-to_be_bytes_4, from_be_bytes-to_be_bytes_8}
 use borrow.Rule.Slice.PartMut.{put_mid}
+use Rattle.turns.proofs.Cutting.{number_4, number_8}
 use Rattle.turns.specs.Bytes.{big_endian}
 use Rattle.turns.specs.Kinds.{kind_number}
 use Rattle.turns.specs.Layout.{mark, docket_of, position_of, state_of}
@@ -21,37 +22,30 @@ module _ (n : ℕ) where
   unfolding spelled
   spelled_8 = rw last_byte
 
+  -- bytes that spell a number have its value
+  read_4 : n < 2 ^ 32 → big_endian (spelled 4 n) ≡ n
+  read_4 h = ap big_endian (sym spelled_4) ∙ sym (number_4 (to_be_bytes w32 n) refl) ∙ from_be_bytes-to_be_bytes_4 n h
+
+  read_8 : n < 2 ^ 64 → big_endian (spelled 8 n) ≡ n
+  read_8 h = ap big_endian (sym spelled_8) ∙ sym (number_8 (to_be_bytes w64 n) refl) ∙ from_be_bytes-to_be_bytes_8 n h
+
 -- six parts written one behind another over 96 zeros
-pub written : (s : State) {front docket small seat0 seat1 last : List ℕ} → front ≡ mark → docket ≡ spelled 4 s.docket → small ≡ s.at_match ∷ s.code ∷ s.turn ∷ kind_number s.kind ∷ []
+pub written : (s : State) {front docket one_byte seat0 seat1 last : List ℕ} → front ≡ mark → docket ≡ spelled 4 s.docket → one_byte ≡ s.at_match ∷ s.code ∷ s.turn ∷ kind_number s.kind ∷ []
     → seat0 ≡ spelled 8 s.position.amounts.seat0 → seat1 ≡ spelled 8 s.position.amounts.seat1 → last ≡ s.position.«data»
-    → put_mid 29 67 (put_mid 21 8 (put_mid 13 8 (put_mid 9 4 (put_mid 5 4 (front ++ drop 5 (replicate 96 0)) docket) small) seat0) seat1) last ≡ bytes_of s
+    → put_mid 29 67 (put_mid 21 8 (put_mid 13 8 (put_mid 9 4 (put_mid 5 4 (front ++ drop 5 (replicate 96 0)) docket) one_byte) seat0) seat1) last ≡ bytes_of s
 unfolding bytes_of spelled
 written s e1 e2 e3 e4 e5 e6 = rw (e1, e2, e3, e4, e5, e6, append-nil s.position.«data»)
-
--- bytes that spell a number have its value
-value : (k n a : ℕ) → fold (λ b x. b * 256 + x) a (spelled k n) ≡ a * 256 ^ k + n % 256 ^ k
-unfolding spelled
-value zero n a = omega arith
-value (suc k) n a =
-    let positive : 0 < 256 ^ k = pow-le-pow_right {n = 256} (lit< tt) (zero-le {n = k}) in
-    let power = pow-succ' 256 k in
-    let split : n % (256 * 256 ^ k) ≡ (n / 256 ^ k % 256) * 256 ^ k + n % 256 ^ k = mod-mul n (lit< tt) positive in
-    value k n (a * 256 + n / 256 ^ k % 256)
-    ∙ rw power (omega (arith, split, add-mul (a * 256) (n / 256 ^ k % 256) (256 ^ k), mul_assoc a 256 (256 ^ k)))
-
-pub read_spelled : (k n : ℕ) → n < 256 ^ k → big_endian (spelled k n) ≡ n
-read_spelled k n h = value k n 0 ∙ omega (arith, mod-eq_of_lt h)
 
 -- what is written of a state is read as that state
 module _ (s : State) (w : Writable s) where
   same_docket : docket_of (bytes_of s) ≡ s.docket
   unfolding docket_of bytes_of spelled
-  same_docket = read_spelled 4 s.docket w.docket
+  same_docket = read_4 s.docket w.docket
 
   same_position : position_of (bytes_of s) ≡ s.position
   unfolding position_of bytes_of spelled
   same_position =
-      rw (read_spelled 8 s.position.amounts.seat0 w.seat0, read_spelled 8 s.position.amounts.seat1 w.seat1, take_all 67 s.position.«data» (omega arith))
+      rw (read_8 s.position.amounts.seat0 w.seat0, read_8 s.position.amounts.seat1 w.seat1, take_all 67 s.position.«data» (omega arith))
 
   pub reads_back : state_of (bytes_of s) ≡ s
   unfolding bytes_of spelled
