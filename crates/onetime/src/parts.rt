@@ -30,8 +30,9 @@ pub(crate) fn whole<T, const N: usize>(elements: &[T]) -> &[T; N]
 }
 
 // The hash of N bytes: those of a head, and of a body behind it.
+// They are put into one array, since a signing by the streaming `Sha256` takes a tenth longer.
 pub(crate) fn hash_of<const N: usize>(head: &[u8], body: &[u8]) -> Hash
-    requires whole { length head.now + length body.now ≡ N }
+    requires exact { length head.now + length body.now ≡ N }
     requires small { N < 2 ^ 63 }
     ensures { result ≡ sha_256 (head.now ++ body.now) }
 {
