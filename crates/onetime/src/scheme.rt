@@ -1,8 +1,9 @@
-ghost use Rattle.std.specs.Prelude.{◌≡◌, ℕ, ◌<◌, ◌≤◌, false, List, length, take, drop, None};
+ghost use Rattle.std.specs.Prelude.{◌≡◌, ◌≤◌, length, take, drop};
 ghost use Rattle.onetime.specs.Meanings.{Cleared, SignatureWritten, fits_onetime, onetime_means, public_key};
 ghost use Rattle.onetime.specs.Signatures.{ChainsMeet, PathsLeadUp, SignaturesAccepted, signature};
 ghost use Rattle.onetime.specs.Trees.{Grown};
 ghost use Rattle.schemes.specs.Calls.{Signs};
+ghost use Rattle.schemes.specs.Meaning.{Fresh};
 ghost use Rattle.std.proofs.Common.{rules};
 
 use crate::chains::chains_at;
@@ -52,9 +53,7 @@ fn write_signature(tree: &Tree, ready: &Ready<'_, '_>, out: &mut [u8])
 
 impl OneTime {
     pub fn new() -> OneTime
-        ensures public { (key : ℕ) → (onetime_means result).public key ≡ None }
-        ensures spent { (key turn : ℕ) → (onetime_means result).spent key turn ≡ false }
-        ensures accepts { (key turn : ℕ) (digest s : List ℕ) → (onetime_means result).accepts key turn digest s ≡ false }
+        ensures { Fresh (onetime_means result) }
     {
         OneTime {
             pages: Pages::new(false),

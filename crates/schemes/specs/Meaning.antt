@@ -1,4 +1,4 @@
-use Rattle.std.specs.Prelude.{◌≡◌, ℕ, ◌≤◌, Bool, true, List, length, is_some, Option, ◌≢◌}
+use Rattle.std.specs.Prelude.{◌≡◌, ℕ, ◌≤◌, Bool, true, false, List, length, is_some, None, Option, ◌≢◌}
 
 -- What a scheme means: for each key its public key or none, the turns that are spent, and what is accepted,
 -- which is a key, a turn, a digest and a signature.
@@ -6,6 +6,12 @@ pub record Meaning : Type 0 where
   pub public : ℕ → Option (List ℕ)
   pub spent : ℕ → ℕ → Bool
   pub accepts : ℕ → ℕ → List ℕ → List ℕ → Bool
+
+-- no key has a public key, no turn is spent, and nothing is accepted
+pub record Fresh (m : Meaning) : Type 0 where
+  pub public : (key : ℕ) → m.public key ≡ None
+  pub spent : (key turn : ℕ) → m.spent key turn ≡ false
+  pub accepts : (key turn : ℕ) (digest signature : List ℕ) → m.accepts key turn digest signature ≡ false
 
 -- what can be accepted at all, where signatures are `siglen` bytes long
 pub record Proper (siglen : ℕ) (m : Meaning) (key turn : ℕ) (digest signature : List ℕ) : Type 0 where

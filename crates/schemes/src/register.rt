@@ -1,4 +1,5 @@
-ghost use Rattle.std.specs.Prelude.{◌≡◌, ℕ, false, List, ◌∷◌};
+ghost use Rattle.std.specs.Prelude.{◌≡◌, ◌∷◌};
+ghost use Rattle.schemes.specs.Meaning.{Fresh};
 ghost use Rattle.hash.specs.Sha256.{sha_256};
 ghost use Rattle.schemes.specs.Registers.{Cleared, fits_register, public_key, register_means};
 ghost use Rattle.std.proofs.Common.{rules};
@@ -28,9 +29,7 @@ fn commitment(secret: &[u8; SECRET_LEN]) -> [u8; PUBLIC_LEN]
 
 impl Register {
     pub fn new() -> Register
-        ensures public { (key : ℕ) → (register_means result).public key ≡ None }
-        ensures spent { (key turn : ℕ) → (register_means result).spent key turn ≡ false }
-        ensures accepts { (key turn : ℕ) (digest signature : List ℕ) → (register_means result).accepts key turn digest signature ≡ false }
+        ensures { Fresh (register_means result) }
     {
         Register {
             pages: Pages::new(None),

@@ -1,6 +1,6 @@
 // The digests of messages that other tools have given.
 use crate::digests::{DIGESTS, LONGEST};
-use crate::hex::spelled;
+use crate::digits::spelled;
 use hash::{Sha256, sha256};
 use std::test::Fail;
 

@@ -4,9 +4,9 @@
 #[cfg(test)]
 mod digests;
 #[cfg(test)]
-mod hashing;
+mod digits;
 #[cfg(test)]
-mod hex;
+mod hashing;
 #[cfg(test)]
 mod refusals;
 #[cfg(test)]

@@ -1,5 +1,5 @@
 // Both schemes: vectors of the one-time scheme from another implementation, and the order of the refusals.
-use crate::hex::spelled;
+use crate::digits::spelled;
 use crate::refusals;
 use crate::signatures::{FIRST, LAST, MIDDLE, Vector};
 use hash::sha256;
