@@ -16,14 +16,14 @@ fn public_of(secret: &[u8; 32]) -> [u8; 32] {
 }
 
 // Public key and signature are those of the vector, byte for byte.
-fn is_made(rt: &impl Abort, vector: &Vector) {
-    let secret = spelled(vector.secret);
-    let public = spelled(vector.public);
+fn is_made(rt: &impl Abort, vector: &Vector) -> Result<(), Fail> {
+    let secret = spelled(vector.secret)?;
+    let public = spelled(vector.public)?;
     assert!(rt; public_of(&secret) == public);
     let mut scheme = OneTime::new();
     assert!(rt; scheme.enrol(KEY, &public).is_ok());
     let mut signature = [0; 2304];
-    let digest = spelled(vector.digest);
+    let digest = spelled(vector.digest)?;
     let message = Message {
         key: KEY,
         turn: vector.turn,
@@ -33,10 +33,11 @@ fn is_made(rt: &impl Abort, vector: &Vector) {
     let (parts, _) = signature.as_chunks::<32>();
     assert!(rt; parts.len() == vector.signature.len());
     for (made, part) in parts.iter().zip(vector.signature) {
-        assert!(rt; *made == spelled(part));
+        assert!(rt; *made == spelled(part)?);
     }
     assert!(rt; scheme.check(&message, &signature));
     is_changed(rt, &scheme, vector.turn, &digest, signature);
+    Ok(())
 }
 
 // No single byte may be changed: at every 61st place, so that each part is met.
@@ -71,18 +72,18 @@ fn is_changed(
 }
 
 #[test]
-fn first_vector(rt: HostRuntime) {
-    is_made(&rt, &FIRST);
+fn first_vector(rt: HostRuntime) -> Result<(), Fail> {
+    is_made(&rt, &FIRST)
 }
 
 #[test]
-fn middle_vector(rt: HostRuntime) {
-    is_made(&rt, &MIDDLE);
+fn middle_vector(rt: HostRuntime) -> Result<(), Fail> {
+    is_made(&rt, &MIDDLE)
 }
 
 #[test]
-fn last_vector(rt: HostRuntime) {
-    is_made(&rt, &LAST);
+fn last_vector(rt: HostRuntime) -> Result<(), Fail> {
+    is_made(&rt, &LAST)
 }
 
 // A scheme's refusal blames no state.
@@ -204,11 +205,11 @@ fn a_short_buffer_is_refused(rt: HostRuntime) -> Result<(), Fail> {
 }
 
 #[test]
-fn a_register_accepts_what_was_entered(rt: HostRuntime) {
+fn a_register_accepts_what_was_entered(rt: HostRuntime) -> Result<(), Fail> {
     let secret = [11; 32];
     let digest = sha256(b"a state");
     // SHA-256 of byte 4 and 32 bytes of 11, by Python's hashlib
-    let public = spelled("1897350f311cb41970d69bd38018555b44522be3800d6e1a7994871e192d0534");
+    let public = spelled("1897350f311cb41970d69bd38018555b44522be3800d6e1a7994871e192d0534")?;
     assert!(rt; Register::public_key(&secret) == Some(public));
     let mut scheme = Register::new();
     assert!(rt; scheme.enrol(KEY, &public).is_ok());
@@ -235,4 +236,5 @@ fn a_register_accepts_what_was_entered(rt: HostRuntime) {
         )
     );
     assert!(rt; !scheme.check(&Message { key: 6, ..message }, &[]));
+    Ok(())
 }
