@@ -35,6 +35,7 @@ impl Chain {
     }
 
     // Walks a value on, from a position to another.
+    #[inline(always)]
     #[tactic(auto, unfolding(crate::specs::Chains::walk))]
     fn walk(self, from: u8, to: u8, start: Hash) -> Hash
         ensures { result ≡ walk self.turn self.number from (to - from) start }
