@@ -40,8 +40,7 @@ impl Register {
     pub fn public_key(secret: &[u8]) -> Option<[u8; PUBLIC_LEN]>
         ensures { result ≡ public_key secret.now }
     {
-        let secret = secret.as_array()?;
-        Some(commitment(secret))
+        secret.as_array().map(commitment)
     }
 
     // What a signing enters, if nothing speaks against it.
