@@ -4,15 +4,20 @@ use Rattle.turns.specs.declared.refusal.Refusal.{Refusal}
 use Rattle.schemes.specs.Calls.{early_refusal}
 use Rattle.schemes.specs.Places.{PlaceOf}
 use Rattle.schemes.specs.declared.keys.Ready.{Ready}
+use Rattle.schemes.specs.declared.pages.Page.{Page}
 use Rattle.schemes.specs.declared.pages.Pages.{Pages}
+
+-- the page of a key, and an empty one where there is none
+abbrev pub page_of : {T : Type 0} → Pages T → ℕ → Page T
+page_of p key = slice_index_or p.pages key (record { public = None; turns = [] })
 
 -- the public key of a key
 abbrev pub public_of : {T : Type 0} → Pages T → ℕ → Option (List ℕ)
-public_of p key = cond (nat_lt 15 key) None (slice_index_or p.publics key None)
+public_of p key = cond (nat_lt 15 key) None (page_of p key).public
 
 -- what stands for a turn of a key, and `d` where there is none
 abbrev pub at : {T : Type 0} → T → Pages T → ℕ → ℕ → T
-at d p key turn = slice_index_or (slice_index_or p.turns key []) turn d
+at d p key turn = slice_index_or (page_of p key).turns turn d
 
 -- a key that had no public key has one, and a page of blanks; every other key has what it had
 pub record FirstPage {T : Type 0} (blank : T) (key : ℕ) (public : List ℕ) (p p' : Pages T) : Type 0 where

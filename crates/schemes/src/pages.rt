@@ -7,11 +7,17 @@ use crate::keys::{DIGEST_LEN, PUBLIC_LEN, Ready, SECRET_LEN, refusal};
 use crate::place::{KEYS, Message, Place, TURNS};
 use turns::{Reason, Refusal};
 
-// What a scheme keeps: for each of its keys the public key, of 32 bytes, and something for each turn.
+// What a scheme keeps of a key: its public key, of 32 bytes, and something for each of its turns.
+#[derive(Clone, Copy)]
+struct Page<T: Copy> {
+    public: Option<[u8; PUBLIC_LEN]>,
+    turns: [T; TURNS],
+}
+
+// A page for each key.
 #[derive(Drop)]
 pub struct Pages<T: Copy> {
-    publics: [Option<[u8; PUBLIC_LEN]>; KEYS],
-    turns: [[T; TURNS]; KEYS],
+    pages: [Page<T>; KEYS],
 }
 
 impl<T: Copy> Pages<T> {
@@ -20,9 +26,12 @@ impl<T: Copy> Pages<T> {
         ensures publics { (key : ℕ) → public_of result key ≡ None }
         ensures turns { (key turn : ℕ) → at blank result key turn ≡ blank }
     {
+        let page = Page {
+            public: None,
+            turns: [blank; TURNS],
+        };
         Pages {
-            publics: [None; KEYS],
-            turns: [[blank; TURNS]; KEYS],
+            pages: [page; KEYS],
         }
     }
 
@@ -30,15 +39,15 @@ impl<T: Copy> Pages<T> {
     pub fn get(&self, key: u8) -> Option<[u8; PUBLIC_LEN]>
         ensures { result ≡ public_of self.now key }
     {
-        self.publics.get(usize::from(key)).copied().flatten()
+        self.pages.get(usize::from(key))?.public
     }
 
     // What stands for a turn of a key.
     pub fn at(&self, place: Place) -> T
         ensures { (d : T) → result ≡ at d self.now place.key place.turn }
     {
-        let page = &self.turns[usize::from(place.key)];
-        page[usize::from(place.turn)]
+        let page = &self.pages[usize::from(place.key)];
+        page.turns[usize::from(place.turn)]
     }
 
     // Gives a key its public key, and a page of blanks.
@@ -47,11 +56,10 @@ impl<T: Copy> Pages<T> {
         ensures answer { result ≡ answer (enrol_refusal 32 (public_of self.old key) key public.now) tt }
         ensures after { Enrolled blank key public.now result self.old self.new }
     {
-        let (Some(known), Some(public)) = (self.publics.get(usize::from(key)), public.as_array())
-        else {
+        let (true, Some(public)) = (usize::from(key) < KEYS, public.as_array()) else {
             return Err(refusal(Reason::Argument, key));
         };
-        if known.is_some() {
+        if self.get(key).is_some() {
             return Err(refusal(Reason::AlreadyEnrolled, key));
         }
         self.begin_page(key, *public, blank);
@@ -63,8 +71,10 @@ impl<T: Copy> Pages<T> {
         ensures publics { (k : ℕ) → public_of self.new k ≡ (if k == key then Some public else public_of self.old k) }
         ensures turns { (k t : ℕ) → at blank self.new k t ≡ (if k == key then blank else at blank self.old k t) }
     {
-        self.publics[usize::from(key)] = Some(public);
-        self.turns[usize::from(key)] = [blank; TURNS];
+        self.pages[usize::from(key)] = Page {
+            public: Some(public),
+            turns: [blank; TURNS],
+        };
     }
 
     // Puts something for a turn of a key.
@@ -72,7 +82,8 @@ impl<T: Copy> Pages<T> {
         ensures publics { (k : ℕ) → public_of self.new k ≡ public_of self.old k }
         ensures turns { (d : T) (k t : ℕ) → at d self.new k t ≡ (if k == place.key && t == place.turn then entry else at d self.old k t) }
     {
-        self.turns[usize::from(place.key)][usize::from(place.turn)] = entry;
+        let page = &mut self.pages[usize::from(place.key)];
+        page.turns[usize::from(place.turn)] = entry;
     }
 
     // A signing that nothing but its secret or a spent turn can speak against.
