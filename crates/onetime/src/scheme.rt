@@ -132,10 +132,9 @@ impl Scheme for OneTime {
     }
 
     fn check(&self, message: &Message<'_>, signature: &[u8]) -> bool {
-        let (Some(public), Some(_), Some(digest), Some(signature)) = (
+        let (Some(public), Some((_, digest)), Some(signature)) = (
             self.pages.get(message.key),
-            message.place(),
-            message.digest.as_array(),
+            message.parts(),
             signature.as_array(),
         ) else {
             return false;

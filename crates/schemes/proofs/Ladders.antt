@@ -1,9 +1,9 @@
-use Rattle.std.proofs.Common.{◌≡◌, not, ℕ, ◌≤◌, Bool, true, false, cond, List, [], ◌∷◌, ◌++◌, is_some, is_err, Some, None, Ok, Err, Option, Result, sym, refl, ap, ◌∙◌}
-use Rattle.std.proofs.lemmas.Bool.{ltb-false, false≢true}
+use Rattle.std.proofs.Common.{◌≡◌, ℕ, Bool, true, false, cond, List, [], ◌∷◌, ◌++◌, Some, None, Ok, Err, Option, sym, refl, ap, ◌∙◌}
+use Rattle.std.proofs.lemmas.Bool.{not-false}
 use Rattle.turns.specs.Refusals.{Rung, first_found, answer}
 use Rattle.turns.specs.declared.refusal.Refusal.{Refusal}
-use Rattle.schemes.specs.Calls.{After, early_ladder, early_refusal, enrol_ladder, enrol_refusal, fits_key, late_ladder, late_refusal, sign_ladder, sign_refusal}
-use Rattle.schemes.specs.Meaning.{Keeps, Meaning}
+use Rattle.schemes.specs.Calls.{early_ladder, early_refusal, fits_key, late_ladder, late_refusal, sign_ladder, sign_refusal}
+use Rattle.schemes.specs.Meaning.{Meaning}
 use Rattle.schemes.specs.Pages.{IsReady}
 use Rattle.schemes.specs.declared.keys.Ready.{Ready}
 
@@ -30,30 +30,15 @@ pub refused : {A : Type 0} (o : Option Refusal) (a : A) (e : Refusal) → Err e 
 refused None a e h = cc
 refused (Some r) a e h = cc
 
--- an accepted signing was lent a buffer that holds the signature
-pub roomy : (siglen seclen : ℕ) (fits : List ℕ → List ℕ → Bool) (m : Meaning) (key turn : ℕ) (digest secret : List ℕ) (room : ℕ) → sign_refusal siglen seclen fits m key turn digest secret room ≡ None → siglen ≤ room
-unfolding sign_refusal
-roomy siglen seclen fits m key turn digest secret room e =
-    ltb-false room siglen (all_passed (sign_ladder siglen seclen fits m key turn digest secret room) e).1.0
-
--- and is of a turn that was not spent
+-- an accepted signing is of a turn that was not spent
 pub unspent : (siglen seclen : ℕ) (fits : List ℕ → List ℕ → Bool) (m : Meaning) (key turn : ℕ) (digest secret : List ℕ) (room : ℕ) → sign_refusal siglen seclen fits m key turn digest secret room ≡ None → m.spent key turn ≡ false
 unfolding sign_refusal
 unspent siglen seclen fits m key turn digest secret room e = (all_passed (sign_ladder siglen seclen fits m key turn digest secret room) e).1.1.1.1.0
 
 -- and of a secret that fits
-not_false : (b : Bool) → not b ≡ false → b ≡ true
-not_false true e = refl
-not_false false e = sym e
-
 pub fitting : (siglen seclen : ℕ) (fits : List ℕ → List ℕ → Bool) (m : Meaning) (key turn : ℕ) (digest secret : List ℕ) (room : ℕ) → sign_refusal siglen seclen fits m key turn digest secret room ≡ None → fits_key fits secret (m.public key) ≡ true
 unfolding sign_refusal
-fitting siglen seclen fits m key turn digest secret room e = not_false _ (all_passed (sign_ladder siglen seclen fits m key turn digest secret room) e).1.1.1.0
-
--- a refused call leaves the meaning as it was
-pub unchanged : {A : Type 0} (r : Result A Refusal) (Left : Type 0) (m m' : Meaning) → After r Left m m' → is_err r ≡ true → m' ≡ m
-unchanged (Ok a) Left m m' h e = absurd (false≢true e)
-unchanged (Err e) Left m m' h _ = h
+fitting siglen seclen fits m key turn digest secret room e = not-false _ (all_passed (sign_ladder siglen seclen fits m key turn digest secret room) e).1.1.1.0
 
 -- a ladder in two parts
 found_rung : (b : Bool) (r : Refusal) (o p : Option Refusal) (e : Refusal) → (o ≡ Some e → p ≡ Some e) → cond b (Some r) o ≡ Some e → cond b (Some r) p ≡ Some e
@@ -69,11 +54,6 @@ passed_early [] ys h = refl
 passed_early (x ∷ xs) ys h =
     let p = passed_one x.applies x.refusal (first_found xs) h in
     ap (λ b. cond b (Some x.refusal) (first_found (xs ++ ys))) p.0 ∙ passed_early xs ys p.1
-
--- an accepted enrolment is of a key that had none
-pub was_fresh : (publen : ℕ) (known : Option (List ℕ)) (key : ℕ) (public : List ℕ) → enrol_refusal publen known key public ≡ None → is_some known ≡ false
-unfolding enrol_refusal
-was_fresh publen known key public e = (all_passed (enrol_ladder publen known key public) e).1.0
 
 -- what a signing is refused for, by how far it comes
 module _ (siglen seclen : ℕ) (fits : List ℕ → List ℕ → Bool) (m : Meaning) (key turn : ℕ) (digest secret : List ℕ) (room : ℕ) where
@@ -95,21 +75,4 @@ pub sign_found : (siglen : ℕ) (fits : List ℕ → List ℕ → Bool) (m : Mea
     → (fit is_spent : Bool) → fit ≡ fits secret r.public → is_spent ≡ m.spent key turn → (o : Option Refusal) → late_refusal r.place.key fit is_spent ≡ o → sign_refusal siglen 32 fits m key turn digest secret room ≡ o
 sign_found siglen fits m key turn digest secret room r ready fit is_spent same spent o found =
     sign_late siglen 32 fits m key turn digest secret room r.public ready.unrefused ready.public_known
-    ∙ rw (sym same, sym spent, sym ready.place.1) found
-
--- a call's answer, by what is found
-pub says_err : (o : Option Refusal) (e : Refusal) → o ≡ Some e → ◌≡◌ {A = Result Unit Refusal} (Err e) (answer o tt)
-says_err o e h = ap (λ (x : Option Refusal). answer x tt) (sym h)
-
-pub says_ok : (o : Option Refusal) → o ≡ None → ◌≡◌ {A = Result Unit Refusal} (Ok tt) (answer o tt)
-says_ok o h = ap (λ (x : Option Refusal). answer x tt) (sym h)
-
--- nothing is changed by a refused call
-pub keeps_all : (key : ℕ) (m : Meaning) → Keeps key m m
-keeps_all key m =
-    record {
-      stays = λ k t d s e. e;
-      public = λ k ne. refl;
-      spent = λ k t ne. refl;
-      accepts = λ k t d s ne. refl;
-    }
+    ∙ rw (sym same, sym spent, sym ready.place.same_key) found

@@ -34,7 +34,7 @@ Enrolled blank key public (Err e) p p' = p' ≡ p
 pub record IsReady (siglen : ℕ) (known : Option (List ℕ)) (key turn : ℕ) (digest secret : List ℕ) (room : ℕ) (r : Ready) : Type 0 where
   pub unrefused : early_refusal siglen 32 known key turn digest secret room ≡ None
   pub public_known : known ≡ Some r.public
-  pub place : PlaceOf key turn (Some r.place)
+  pub place : PlaceOf key turn r.place
   pub same_digest : r.digest.now ≡ digest
   pub same_secret : r.secret.now ≡ secret
   pub digest_length : length digest ≡ 32

@@ -3,14 +3,12 @@ ghost use Rattle.std.specs.Str.{bytes_eq};
 ghost use Rattle.schemes.specs.Calls.{late_refusal, refuse_key};
 ghost use Rattle.turns.specs.Refusals.{answer};
 
-use crate::place::{KEYS, Place};
+use crate::place::{DIGEST_LEN, KEYS, Place};
 use turns::{Layer, NONE, Reason, Refusal};
 
 pub const PUBLIC_LEN: usize = 32;
 
 pub const SECRET_LEN: usize = 32;
-
-pub const DIGEST_LEN: usize = 32;
 
 // A refusal of a call about a key.
 pub fn refusal(reason: Reason, key: u8) -> Refusal
@@ -31,11 +29,11 @@ pub struct Ready<'d, 's> {
 }
 
 impl Ready<'_, '_> {
-    // What is asked last: whether the secret leads to the public key, and whether the turn is spent.
-    pub fn clear(&self, root: &[u8; PUBLIC_LEN], is_spent: bool) -> Result<(), Refusal>
-        ensures { result ≡ answer (late_refusal self.now.place.key (bytes_eq root.now self.now.public) is_spent) tt }
+    // What is asked last: whether the secret makes the public key, and whether the turn is spent.
+    pub fn clear(&self, made: &[u8; PUBLIC_LEN], is_spent: bool) -> Result<(), Refusal>
+        ensures { result ≡ answer (late_refusal self.now.place.key (bytes_eq made.now self.now.public) is_spent) tt }
     {
-        if *root != self.public {
+        if *made != self.public {
             return Err(refusal(Reason::Secret, self.place.key));
         }
         if is_spent {

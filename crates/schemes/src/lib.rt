@@ -8,9 +8,9 @@ mod register;
 mod scheme;
 mod signing;
 
-pub use keys::{DIGEST_LEN, PUBLIC_LEN, Ready, SECRET_LEN, refusal};
+pub use keys::{PUBLIC_LEN, Ready, SECRET_LEN, refusal};
 pub use pages::Pages;
-pub use place::{KEYS, Message, Place, TURNS};
+pub use place::{DIGEST_LEN, KEYS, Message, Place, TURNS};
 pub use register::Register;
 pub use scheme::Scheme;
 pub use signing::{enrol_and_ask, sign_and_check, sign_between_checks};

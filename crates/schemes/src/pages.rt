@@ -3,7 +3,7 @@ ghost use Rattle.schemes.specs.Calls.{enrol_refusal};
 ghost use Rattle.schemes.specs.Pages.{Enrolled, Signer, at, public_of};
 ghost use Rattle.turns.specs.Refusals.{answer};
 
-use crate::keys::{DIGEST_LEN, PUBLIC_LEN, Ready, SECRET_LEN, refusal};
+use crate::keys::{PUBLIC_LEN, Ready, refusal};
 use crate::place::{KEYS, Message, Place, TURNS};
 use turns::{Reason, Refusal};
 
@@ -96,11 +96,7 @@ impl<T: Copy> Pages<T> {
     ) -> Result<Ready<'d, 's>, Refusal>
         ensures { Signer signature_len (public_of self.now message.now.key) message.now.key message.now.turn message.now.digest.now secret.now room result }
     {
-        let (Some(place), Some(digest), Some(secret)) = (
-            message.place(),
-            message.digest.as_array(),
-            secret.as_array(),
-        ) else {
+        let (Some((place, digest)), Some(secret)) = (message.parts(), secret.as_array()) else {
             return Err(refusal(Reason::Argument, message.key));
         };
         if room < signature_len {

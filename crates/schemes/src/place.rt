@@ -4,6 +4,8 @@ pub const KEYS: usize = 16;
 
 pub const TURNS: usize = 32;
 
+pub const DIGEST_LEN: usize = 32;
+
 // A key and a turn, of those that there are.
 #[derive(Clone, Copy)]
 pub struct Place {
@@ -21,19 +23,17 @@ pub struct Message<'a> {
     pub digest: &'a [u8],
 }
 
-impl Message<'_> {
-    ghost use Rattle.schemes.specs.Places.{PlaceOf};
+impl<'a> Message<'a> {
+    ghost use Rattle.schemes.specs.Places.{Parts};
 
-    // The key and the turn, if there are such.
-    pub fn place(&self) -> Option<Place>
-        ensures { PlaceOf self.now.key self.now.turn result }
+    // The key and the turn, and the digest, if there are such and the digest has 32 bytes.
+    pub fn parts(&self) -> Option<(Place, &'a [u8; DIGEST_LEN])>
+        ensures { Parts self.now.key self.now.turn self.now.digest.now result }
     {
-        if usize::from(self.key) >= KEYS || usize::from(self.turn) >= TURNS {
+        let Message { key, turn, digest } = *self;
+        if usize::from(key) >= KEYS || usize::from(turn) >= TURNS {
             return None;
         }
-        Some(Place {
-            key: self.key,
-            turn: self.turn,
-        })
+        Some((Place { key, turn }, digest.as_array()?))
     }
 }

@@ -4,9 +4,9 @@ ghost use Rattle.hash.specs.Sha256.{sha_256};
 ghost use Rattle.schemes.specs.Registers.{Cleared, fits_register, public_key, register_means};
 ghost use Rattle.std.proofs.Common.{rules};
 
-use crate::keys::{DIGEST_LEN, PUBLIC_LEN, Ready, SECRET_LEN};
+use crate::keys::{PUBLIC_LEN, Ready, SECRET_LEN};
 use crate::pages::Pages;
-use crate::place::Message;
+use crate::place::{DIGEST_LEN, Message};
 use crate::scheme::Scheme;
 use turns::Refusal;
 
@@ -101,7 +101,7 @@ impl Scheme for Register {
     }
 
     fn check(&self, message: &Message<'_>, signature: &[u8]) -> bool {
-        let (Some(place), Some(digest)) = (message.place(), message.digest.as_array()) else {
+        let Some((place, digest)) = message.parts() else {
             return false;
         };
         self.enrolled(message.key) && signature.is_empty() && self.pages.at(place) == Some(*digest)
