@@ -8,7 +8,7 @@ use turns::Refusal;
 
 const KEY: u8 = 0;
 
-// Writes the public key of a secret into 32 lent bytes.
+// Writes the public key of a secret into 32 lent bytes. A bool beside lent bytes: C has no Option.
 #[unsafe(no_mangle)]
 pub extern "C" fn kofnasig_onetime_root(secret: &[u8], public: &mut [u8]) -> bool
     ensures answer { result ≡ can_root secret.now public.old }
@@ -34,6 +34,8 @@ fn with_key(public: &[u8]) -> Result<OneTime, Refusal>
 }
 
 // Writes the signature of a digest at a turn into the first 2304 of the lent bytes, if the secret fits the public key.
+// A bool beside lent bytes: C has no Result.
+#[tactic(auto, using(crate::proofs::Signing::accepted, crate::proofs::Signing::left))]
 #[unsafe(no_mangle)]
 pub extern "C" fn kofnasig_onetime_sign(
     public: &[u8],

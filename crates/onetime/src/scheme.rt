@@ -71,6 +71,7 @@ impl OneTime {
     }
 
     // What a signing is about and the secret's tree, if nothing speaks against it.
+    // Not one function for both schemes: here the tree is made between the halves of the ladder, and is needed after.
     fn clear_to_sign<'d, 's>(
         &self,
         message: &Message<'d>,
@@ -107,6 +108,7 @@ impl Scheme for OneTime {
 
     ghost proper = { Prim.search rules };
 
+    // As in the register scheme, a line over the pages: a trait of schemes with pages would be longer than both.
     fn enrolled(&self, key: u8) -> bool {
         self.pages.get(key).is_some()
     }

@@ -19,6 +19,7 @@ pub struct Register {
 }
 
 // What a secret is committed to by.
+// The one hash of this crate: a function of any parts, as the one-time scheme has for four, would be no plainer.
 fn commitment(secret: &[u8; SECRET_LEN]) -> [u8; PUBLIC_LEN]
     ensures { result ≡ sha_256 (4 ∷ secret.now) }
 {
@@ -44,6 +45,7 @@ impl Register {
     }
 
     // What a signing enters, if nothing speaks against it.
+    // Not one function for both schemes: the other makes its tree between the halves of the ladder, and needs it after.
     fn clear_to_sign<'d, 's>(
         &self,
         message: &Message<'d>,
@@ -80,6 +82,7 @@ impl Scheme for Register {
 
     ghost proper = { Prim.search rules };
 
+    // As in the one-time scheme, a line over the pages: a trait of schemes with pages would be longer than both.
     fn enrolled(&self, key: u8) -> bool {
         self.pages.get(key).is_some()
     }
