@@ -22,17 +22,21 @@ enum Phase {
     Ended,
 }
 
+// A byte that names no phase.
+#[derive(Clone, Copy)]
+struct NoPhase;
+
 impl TryFrom<u8> for Phase {
-    type Error = ();
+    type Error = NoPhase;
 
     ghost try_from_gives = { λ byte r. MatchResult r (λ x. phase_number x ≡ byte) (λ _. 2 < byte) };
 
-    fn try_from(byte: u8) -> Result<Phase, ()> {
+    fn try_from(byte: u8) -> Result<Phase, NoPhase> {
         match byte {
             0 => Ok(Phase::Nothing),
             1 => Ok(Phase::GoesOn),
             2 => Ok(Phase::Ended),
-            _ => Err(()),
+            _ => Err(NoPhase),
         }
     }
 }
