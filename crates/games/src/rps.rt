@@ -1,4 +1,5 @@
-ghost use Rattle.std.specs.Prelude.{◌≡◌, ◌<◌, true, false, MatchOption, MatchResult, ◌==◌};
+ghost use Rattle.std.specs.Prelude.{◌≡◌, ◌<◌, false, MatchResult, ◌==◌};
+ghost use Rattle.games.specs.Reading.{ReadIf};
 ghost use Rattle.games.specs.Throws.{phase, phase_number, clean, commitment, keeps_word, throw_number, winnings, result as result_of, is_throw, throws_shape, throws_stakes, throws_lawful};
 
 use crate::rounds::{Rounds, allows, may_begin};
@@ -87,10 +88,11 @@ impl Throw {
 }
 
 // The phase of data whose unused bytes are zero.
-// Only the phase is of a type: from phase 3 the rules do not judge the earlier throws, so typed ones would refuse lawful steps.
+// Not one generic function with that of boards: the trait of phases, with its ghost members, is longer than both.
+// The throws stay bytes: from phase 3 the rules do not judge them, so reading typed ones would refuse lawful steps.
 #[tactic(auto, unfolding(crate::specs::Throws::clean))]
 fn phase_of(data: &[u8; DATA_LEN]) -> Option<Phase>
-    ensures { MatchOption result (clean «data».now ≡ false) (λ x. (clean «data».now ≡ true) × (phase «data».now ≡ phase_number x)) }
+    ensures { ReadIf (clean «data».now) result (λ x. phase «data».now ≡ phase_number x) }
 {
     let phase = Phase::try_from(data[PHASE]).ok()?;
     let unused = match phase {

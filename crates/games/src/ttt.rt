@@ -1,5 +1,6 @@
-ghost use Rattle.std.specs.Prelude.{◌≡◌, ◌<◌, true, false, ◌&&◌, MatchOption, MatchResult, ◌==◌};
+ghost use Rattle.std.specs.Prelude.{◌≡◌, ◌<◌, ◌&&◌, MatchResult, ◌==◌};
 ghost use Rattle.games.specs.Boards.{phase, phase_number, board_of, clean, legal_board, board_shape, board_stakes, board_lawful};
+ghost use Rattle.games.specs.Reading.{ReadIf};
 
 use crate::board::Board;
 use crate::rounds::{Rounds, allows, may_begin};
@@ -45,7 +46,7 @@ impl TryFrom<u8> for Phase {
 // Not one generic function with that of throws: the trait of phases, with its ghost members, is longer than both.
 #[tactic(auto, unfolding(crate::specs::Boards::clean))]
 fn phase_of(data: &[u8; DATA_LEN]) -> Option<Phase>
-    ensures { MatchOption result (clean «data».now ≡ false) (λ x. (clean «data».now ≡ true) × (phase «data».now ≡ phase_number x)) }
+    ensures { ReadIf (clean «data».now) result (λ x. phase «data».now ≡ phase_number x) }
 {
     let phase = Phase::try_from(data[PHASE]).ok()?;
     let unused = match phase {
@@ -74,8 +75,8 @@ struct Round {
 impl Round {
     // The round that a state's data hold, if they are clean and the board is legal.
     fn read(data: &[u8; DATA_LEN]) -> Option<Round>
-        ensures { let good = clean «data».now && legal_board (board_of «data».now) in
-            MatchOption result (good ≡ false) (λ x. (good ≡ true) × (phase «data».now ≡ phase_number x.phase) × (board_of «data».now ≡ x.board)) }
+        ensures { ReadIf (clean «data».now && legal_board (board_of «data».now)) result
+            (λ x. (phase «data».now ≡ phase_number x.phase) × (board_of «data».now ≡ x.board)) }
     {
         let phase = phase_of(data)?;
         let board = read_board(data);
