@@ -1,9 +1,10 @@
-use Rattle.std.proofs.Common.{◌≡◌, ℕ, zero, suc, ◌+◌, ◌*◌, ◌/◌, ◌%◌, ◌^◌, ◌<◌, [], ◌∷◌, fold, sym, refl, ap, ◌∙◌, div-one, arith}
-use Rattle.std.specs.Int.{bytes_high_first}
+use Rattle.std.proofs.Common.{◌≡◌, ℕ, zero, suc, ◌+◌, ◌*◌, ◌/◌, ◌%◌, ◌^◌, ◌<◌, List, [], ◌∷◌, ◌++◌, fold, sym, refl, ap, ◌∙◌, div-one, arith}
+use Rattle.std.specs.Int.{w32, w64, to_be_bytes, bytes_high_first}
 use Rattle.std.proofs.lemmas.List.{take_all}
 use Rattle.std.proofs.Math.Arith.{mod-mul}
 use Rattle.std.proofs.Math.Nat.{mod-eq_of_lt, pow-succ'}
 use Rattle.turns.specs.Bytes.{big_endian}
+use Rattle.turns.specs.Kinds.{kind_number}
 use Rattle.turns.specs.Layout.{docket_of, position_of, state_of}
 use Rattle.turns.specs.Written.{spelled, bytes_of, Writable}
 use Rattle.turns.specs.declared.state.State.{State}
@@ -48,3 +49,10 @@ module _ (s : State) (w : Writable s) where
   pub reads_back : state_of (bytes_of s) ≡ s
   unfolding bytes_of spelled
   reads_back = rw (same_docket, same_position, w.kind)
+
+-- six parts spell a state, and are read as it
+pub spells : (s : State) (docket seat0 seat1 content : List ℕ) (kind : ℕ) → docket ≡ to_be_bytes w32 s.docket → kind ≡ kind_number s.kind → seat0 ≡ to_be_bytes w64 s.position.amounts.seat0 → seat1 ≡ to_be_bytes w64 s.position.amounts.seat1 → content ≡ s.position.«data»
+    → 70 ∷ 77 ∷ 83 ∷ 0 ∷ 1 ∷ (docket ++ s.at_match ∷ s.code ∷ s.turn ∷ kind ∷ (seat0 ++ (seat1 ++ content))) ≡ bytes_of s
+unfolding bytes_of spelled
+spells s docket seat0 seat1 content kind e k e0 e1 same =
+    rw (e ∙ high_first 4 s.docket, k, e0 ∙ high_first 8 s.position.amounts.seat0, e1 ∙ high_first 8 s.position.amounts.seat1, same)

@@ -6,6 +6,7 @@ use crate::state::State;
 
 impl State {
     // The state's bytes. A state whose kind fits its turn is read from them again.
+    #[tactic(auto, using(crate::proofs::Spelling::spells, crate::proofs::Spelling::reads_back))]
     pub fn write(&self) -> [u8; STATE_LEN]
         ensures bytes { result ≡ bytes_of self.now }
         ensures back { ReadsBack self.now result }
