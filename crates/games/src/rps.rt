@@ -112,6 +112,7 @@ fn commitment(data: &[u8; DATA_LEN]) -> &[u8; 32]
 }
 
 // Whether the first throw and its salt are what was committed to.
+#[tactic(auto, using(std::proofs::lemmas::List::drop_more), unfolding(crate::specs::Throws::keeps_word))]
 fn keeps_word(data: &[u8; DATA_LEN]) -> bool
     ensures { result ≡ keeps_word «data».now }
 {
