@@ -1,6 +1,7 @@
 pub mod Boards
 pub mod Examples
 pub mod House
+pub mod Reading
 pub mod Shelves
 pub mod Stakes
 pub mod Throws

@@ -8,6 +8,7 @@ use crate::ttt::TicTacToe;
 use turns::Game;
 
 // What holds of the house's games.
+#[tactic(auto, using(crate::proofs::Money::money_stays, crate::proofs::Worked::worked))]
 fn laws()
     ensures examples { WorkedExamples }
     ensures money { MoneyStays }

@@ -8,6 +8,7 @@ use turns::{Amounts, Seat, Step};
 const LAST_BEGIN: u8 = 16;
 
 // A game of rounds over one code.
+// Each writes its own short `impl Game`: that trait is of another crate, so the language refuses one impl for all of `Rounds`.
 pub(crate) trait Rounds {
     const CODE: u8;
 

@@ -1,9 +1,10 @@
-ghost use Rattle.std.specs.Prelude.{◌≡◌, ◌<◌, true, false, MatchOption, MatchResult, ◌==◌};
+ghost use Rattle.std.specs.Prelude.{◌≡◌, ◌<◌, false, MatchResult, ◌==◌};
+ghost use Rattle.games.specs.Reading.{ReadIf};
 ghost use Rattle.games.specs.Throws.{phase, phase_number, clean, commitment, keeps_word, throw_number, winnings, result as result_of, is_throw, throws_shape, throws_stakes, throws_lawful};
 
 use crate::rounds::{Rounds, allows, may_begin};
 use hash::sha256;
-use turns::{DATA_LEN, Game, Step, all_zero, same_bytes};
+use turns::{DATA_LEN, Game, Step, all_zero};
 
 // where the parts lie in a state's data
 const PHASE: usize = 0;
@@ -23,40 +24,48 @@ enum Phase {
     Shown,
 }
 
+// A byte that names no phase.
+#[derive(Clone, Copy)]
+struct NoPhase;
+
 impl TryFrom<u8> for Phase {
-    type Error = ();
+    type Error = NoPhase;
 
     ghost try_from_gives = { λ byte r. MatchResult r (λ x. phase_number x ≡ byte) (λ _. 3 < byte) };
 
-    fn try_from(byte: u8) -> Result<Phase, ()> {
+    fn try_from(byte: u8) -> Result<Phase, NoPhase> {
         match byte {
             0 => Ok(Phase::Nothing),
             1 => Ok(Phase::Committed),
             2 => Ok(Phase::Answered),
             3 => Ok(Phase::Shown),
-            _ => Err(()),
+            _ => Err(NoPhase),
         }
     }
 }
 
-#[derive(Clone, Copy)]
+#[derive(Clone, Copy, PartialEq, Eq)]
 enum Throw {
     Rock,
     Paper,
     Scissors,
 }
 
+// A byte that names no throw.
+#[derive(Clone, Copy)]
+struct NoThrow;
+
 impl TryFrom<u8> for Throw {
-    type Error = ();
+    type Error = NoThrow;
 
     ghost try_from_gives = { λ byte r. MatchResult r (λ x. throw_number x ≡ byte) (λ _. is_throw byte ≡ false) };
 
-    fn try_from(byte: u8) -> Result<Throw, ()> {
+    fn try_from(byte: u8) -> Result<Throw, NoThrow> {
         match byte {
             1 => Ok(Throw::Rock),
             2 => Ok(Throw::Paper),
             3 => Ok(Throw::Scissors),
-            _ => Err(()),
+            _ => Err(NoThrow),
         }
     }
 }
@@ -66,10 +75,10 @@ impl Throw {
     fn winnings(self, second: Throw) -> u8
         ensures { result ≡ winnings (result_of (throw_number self) (throw_number second)) }
     {
+        if self == second {
+            return 1;
+        }
         match (self, second) {
-            (Throw::Rock, Throw::Rock)
-            | (Throw::Paper, Throw::Paper)
-            | (Throw::Scissors, Throw::Scissors) => 1,
             (Throw::Rock, Throw::Scissors)
             | (Throw::Paper, Throw::Rock)
             | (Throw::Scissors, Throw::Paper) => 2,
@@ -79,9 +88,11 @@ impl Throw {
 }
 
 // The phase of data whose unused bytes are zero.
+// Not one generic function with that of boards: the trait of phases, with its ghost members, is longer than both.
+// The throws stay bytes: from phase 3 the rules do not judge them, so reading typed ones would refuse lawful steps.
 #[tactic(auto, unfolding(crate::specs::Throws::clean))]
 fn phase_of(data: &[u8; DATA_LEN]) -> Option<Phase>
-    ensures { MatchOption result (clean «data».now ≡ false) (λ x. (clean «data».now ≡ true) × (phase «data».now ≡ phase_number x)) }
+    ensures { ReadIf (clean «data».now) result (λ x. phase «data».now ≡ phase_number x) }
 {
     let phase = Phase::try_from(data[PHASE]).ok()?;
     let unused = match phase {
@@ -94,17 +105,18 @@ fn phase_of(data: &[u8; DATA_LEN]) -> Option<Phase>
 }
 
 #[tactic(auto, unfolding(crate::specs::Throws::commitment))]
-fn commitment(data: &[u8; DATA_LEN]) -> &[u8]
+fn commitment(data: &[u8; DATA_LEN]) -> &[u8; 32]
     ensures { result.now ≡ commitment «data».now }
 {
-    &data[COMMITMENT..SECOND]
+    data[COMMITMENT..SECOND].as_array().unwrap()
 }
 
 // Whether the first throw and its salt are what was committed to.
+#[tactic(auto, using(std::proofs::lemmas::List::drop_more), unfolding(crate::specs::Throws::keeps_word))]
 fn keeps_word(data: &[u8; DATA_LEN]) -> bool
     ensures { result ≡ keeps_word «data».now }
 {
-    same_bytes(&sha256(&data[FIRST..]), commitment(data))
+    sha256(&data[FIRST..]) == *commitment(data)
 }
 
 #[derive(Clone, Copy)]

@@ -1,5 +1,6 @@
-ghost use Rattle.std.specs.Prelude.{◌≡◌, ◌<◌, true, false, ◌&&◌, MatchOption, MatchResult, ◌==◌};
+ghost use Rattle.std.specs.Prelude.{◌≡◌, ◌<◌, ◌&&◌, MatchResult, ◌==◌};
 ghost use Rattle.games.specs.Boards.{phase, phase_number, board_of, clean, legal_board, board_shape, board_stakes, board_lawful};
+ghost use Rattle.games.specs.Reading.{ReadIf};
 
 use crate::board::Board;
 use crate::rounds::{Rounds, allows, may_begin};
@@ -22,17 +23,21 @@ enum Phase {
     Ended,
 }
 
+// A byte that names no phase.
+#[derive(Clone, Copy)]
+struct NoPhase;
+
 impl TryFrom<u8> for Phase {
-    type Error = ();
+    type Error = NoPhase;
 
     ghost try_from_gives = { λ byte r. MatchResult r (λ x. phase_number x ≡ byte) (λ _. 2 < byte) };
 
-    fn try_from(byte: u8) -> Result<Phase, ()> {
+    fn try_from(byte: u8) -> Result<Phase, NoPhase> {
         match byte {
             0 => Ok(Phase::Nothing),
             1 => Ok(Phase::GoesOn),
             2 => Ok(Phase::Ended),
-            _ => Err(()),
+            _ => Err(NoPhase),
         }
     }
 }
@@ -41,7 +46,7 @@ impl TryFrom<u8> for Phase {
 // Not one generic function with that of throws: the trait of phases, with its ghost members, is longer than both.
 #[tactic(auto, unfolding(crate::specs::Boards::clean))]
 fn phase_of(data: &[u8; DATA_LEN]) -> Option<Phase>
-    ensures { MatchOption result (clean «data».now ≡ false) (λ x. (clean «data».now ≡ true) × (phase «data».now ≡ phase_number x)) }
+    ensures { ReadIf (clean «data».now) result (λ x. phase «data».now ≡ phase_number x) }
 {
     let phase = Phase::try_from(data[PHASE]).ok()?;
     let unused = match phase {
@@ -70,8 +75,8 @@ struct Round {
 impl Round {
     // The round that a state's data hold, if they are clean and the board is legal.
     fn read(data: &[u8; DATA_LEN]) -> Option<Round>
-        ensures { let good = clean «data».now && legal_board (board_of «data».now) in
-            MatchOption result (good ≡ false) (λ x. (good ≡ true) × (phase «data».now ≡ phase_number x.phase) × (board_of «data».now ≡ x.board)) }
+        ensures { ReadIf (clean «data».now && legal_board (board_of «data».now)) result
+            (λ x. (phase «data».now ≡ phase_number x.phase) × (board_of «data».now ≡ x.board)) }
     {
         let phase = phase_of(data)?;
         let board = read_board(data);

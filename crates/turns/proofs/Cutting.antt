@@ -1,22 +1,34 @@
-use Rattle.std.proofs.Common.{◌≡◌, ℕ, ◌+◌, ◌*◌, ◌<◌, List, length, get_or, take, drop, sym, ap, ◌∙◌, arith, length-drop}
-use Rattle.std.specs.Int.{w32, w64, from_be_bytes}
+use Rattle.std.proofs.Common.{◌≡◌, ℕ, zero, suc, ◌+◌, ◌-◌, ◌*◌, ◌^◌, ◌<◌, ◌≤◌, List, length, get_or, take, drop, sym, refl, ap, ◌∙◌, arith, length-drop, zero-add, add-one}
+use Rattle.std.specs.Int.{w32, w64, from_be_bytes, byte_worth, sum_through}
 use Rattle.std.proofs.lemmas.List.{take_all, drop-drop, get_or-take, get_or-drop, length-take}
 use Rattle.std.proofs.lemmas.List.Sums.{fold_more}
+use Rattle.std.proofs.Math.Nat.{pow-succ'}
 use Rattle.turns.specs.Bytes.{big_endian}
 use Rattle.turns.specs.Layout.{parts_of, docket_of, position_of}
 
+worth : (k x : ℕ) → byte_worth k x ≡ x * 256 ^ k
+worth zero x = omega arith
+worth (suc k) x = refl
+
+shifted : (a x p : ℕ) → a * (256 * p) + x * p ≡ (a * 256 + x) * p
+shifted a x p = grind arith
+
 -- the value of bytes as std has it and as the definitions have it
-module _ (xs : List ℕ) where
-  step : (i : ℕ) → i < length xs → big_endian (take (i + 1) xs) ≡ big_endian (take i xs) * 256 + get_or xs i 0
-  step i h = fold_more (λ a x. a * 256 + x) 0 xs i 0 h
+module _ (xs : List ℕ) (n : ℕ) (long : length xs ≡ suc n) where
+  step : (i : ℕ) → i ≤ n → big_endian (take (suc i) xs) ≡ big_endian (take i xs) * 256 + get_or xs i 0
+  step i h = ap (λ k. big_endian (take k xs)) (sym (add-one i)) ∙ fold_more (λ a x. a * 256 + x) 0 xs i 0 (omega arith)
 
-  pub number_4 : length xs ≡ 4 → from_be_bytes w32 xs ≡ big_endian xs
-  number_4 h =
-      omega (arith, ap big_endian (take_all 4 xs (omega arith)), step 0 (omega arith), step 1 (omega arith), step 2 (omega arith), step 3 (omega arith))
+  so_far : (j : ℕ) → j ≤ n → sum_through (λ i. byte_worth (n - i) (get_or xs i 0)) j ≡ big_endian (take (suc j) xs) * 256 ^ (n - j)
+  so_far zero h = worth (n - 0) (get_or xs 0 0) ∙ ap (λ v. v * 256 ^ (n - 0)) (sym (step 0 h ∙ zero-add (get_or xs 0 0)))
+  so_far (suc j) h =
+      let one_less : n - j ≡ suc (n - suc j) = omega arith in
+      let power = ap (λ k. 256 ^ k) one_less ∙ pow-succ' 256 (n - suc j) in
+      rw (so_far j (omega arith), worth (n - suc j) (get_or xs (suc j) 0), step (suc j) h, power) (shifted (big_endian (take (suc j) xs)) (get_or xs (suc j) 0) (256 ^ (n - suc j)))
 
-  pub number_8 : length xs ≡ 8 → from_be_bytes w64 xs ≡ big_endian xs
-  number_8 h =
-      omega (arith, ap big_endian (take_all 8 xs (omega arith)), step 0 (omega arith), step 1 (omega arith), step 2 (omega arith), step 3 (omega arith), step 4 (omega arith), step 5 (omega arith), step 6 (omega arith), step 7 (omega arith))
+  pub number : sum_through (λ i. byte_worth (n - i) (get_or xs i 0)) n ≡ big_endian xs
+  number =
+      let none : n - n ≡ 0 = omega arith in
+      so_far n (omega arith) ∙ rw (none, take_all (suc n) xs (omega arith)) (omega arith)
 
 -- a part of `n` bytes is cut off the front
 abbrev pub Cut : ℕ → List ℕ → List ℕ → List ℕ → Type 0
@@ -49,9 +61,9 @@ module _ (bytes : List ℕ) where
       let s' = behind 9 4 d'.1 s in
       let a' = behind 13 8 s'.1 a in
       let b' = behind 21 8 a'.1 b in
-      let n = number_4 docket (omega (arith, ap length d.0, length-take 4 r1)) ∙ ap big_endian d'.0 in
-      let n0 = number_8 seat0 (omega (arith, ap length a.0, length-take 8 r3)) ∙ ap big_endian a'.0 in
-      let n1 = number_8 seat1 (omega (arith, ap length b.0, length-take 8 r4)) ∙ ap big_endian b'.0 in
+      let n = number docket 3 (omega (arith, ap length d.0, length-take 4 r1)) ∙ ap big_endian d'.0 in
+      let n0 = number seat0 7 (omega (arith, ap length a.0, length-take 8 r3)) ∙ ap big_endian a'.0 in
+      let n1 = number seat1 7 (omega (arith, ap length b.0, length-take 8 r4)) ∙ ap big_endian b'.0 in
       let k0 = at one_byte 0 (omega arith) s'.0 in
       let k1 = at one_byte 1 (omega arith) s'.0 in
       let k2 = at one_byte 2 (omega arith) s'.0 in

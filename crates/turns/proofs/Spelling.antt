@@ -1,52 +1,58 @@
-use Rattle.std.proofs.Common.{◌≡◌, ℕ, ◌/◌, ◌%◌, ◌^◌, ◌<◌, List, [], ◌∷◌, ◌++◌, drop, replicate, append-nil, sym, refl, ap, ◌∙◌, div-one, arith}
-use Rattle.std.specs.Int.{w32, w64, to_be_bytes}
+use Rattle.std.proofs.Common.{◌≡◌, ℕ, zero, suc, ◌+◌, ◌*◌, ◌/◌, ◌%◌, ◌^◌, ◌<◌, List, [], ◌∷◌, ◌++◌, fold, sym, refl, ap, ◌∙◌, div-one, arith}
+use Rattle.std.specs.Int.{w32, w64, to_be_bytes, bytes_high_first}
 use Rattle.std.proofs.lemmas.List.{take_all}
-use Rattle.std.proofs.lemmas.Nat.{from_be_bytes-to_be_bytes_4, from_be_bytes-to_be_bytes_8}
-use borrow.Rule.Slice.PartMut.{put_mid}
-use Rattle.turns.proofs.Cutting.{number_4, number_8}
+use Rattle.std.proofs.Math.Arith.{mod-mul}
+use Rattle.std.proofs.Math.Nat.{mod-eq_of_lt, pow-succ'}
 use Rattle.turns.specs.Bytes.{big_endian}
 use Rattle.turns.specs.Kinds.{kind_number}
-use Rattle.turns.specs.Layout.{mark, docket_of, position_of, state_of}
+use Rattle.turns.specs.Layout.{docket_of, position_of, state_of}
 use Rattle.turns.specs.Written.{spelled, bytes_of, Writable}
 use Rattle.turns.specs.declared.state.State.{State}
 
-module _ (n : ℕ) where
-  last_byte : n / 1 % 256 ≡ n % 256
-  last_byte = ap (λ x. x % 256) (div-one n)
+-- bytes as std spells them and as the definition does
+pub high_first : (k n : ℕ) → bytes_high_first k n ≡ spelled k n
+unfolding spelled
+high_first zero n = refl
+high_first (suc zero) n = ap (λ x. x % 256 ∷ []) (sym (div-one n))
+high_first (suc (suc k)) n = ap (λ xs. n / 256 ^ suc k % 256 ∷ xs) (high_first (suc k) n)
 
-  pub spelled_4 : (n / 16777216 % 256) ∷ (n / 65536 % 256) ∷ (n / 256 % 256) ∷ (n % 256) ∷ [] ≡ spelled 4 n
-  unfolding spelled
-  spelled_4 = rw last_byte
+positive : (k : ℕ) → 0 < 256 ^ k
+positive zero = omega arith
+positive (suc k) = omega (arith, positive k, pow-succ' 256 k)
 
-  pub spelled_8 : (n / 72057594037927936 % 256) ∷ (n / 281474976710656 % 256) ∷ (n / 1099511627776 % 256) ∷ (n / 4294967296 % 256) ∷ (n / 16777216 % 256) ∷ (n / 65536 % 256) ∷ (n / 256 % 256) ∷ (n % 256) ∷ [] ≡ spelled 8 n
-  unfolding spelled
-  spelled_8 = rw last_byte
+parts : (a q p r : ℕ) → (a * 256 + q) * p + r ≡ a * (256 * p) + (q * p + r)
+parts a q p r = grind arith
 
-  -- bytes that spell a number have its value
-  read_4 : n < 2 ^ 32 → big_endian (spelled 4 n) ≡ n
-  read_4 h = ap big_endian (sym spelled_4) ∙ sym (number_4 (to_be_bytes w32 n) refl) ∙ from_be_bytes-to_be_bytes_4 n h
+-- behind the value `a`, bytes that spell a number add its lowest bytes
+behind : (k a n : ℕ) → fold (λ x y. x * 256 + y) a (spelled k n) ≡ a * 256 ^ k + n % 256 ^ k
+unfolding spelled
+behind zero a n = omega arith
+behind (suc k) a n =
+    let lowest = mod-mul n {m = 256} {c = 256 ^ k} (omega arith) (positive k) in
+    rw (pow-succ' 256 k, lowest) (behind k (a * 256 + n / 256 ^ k % 256) n ∙ parts a (n / 256 ^ k % 256) (256 ^ k) (n % 256 ^ k))
 
-  read_8 : n < 2 ^ 64 → big_endian (spelled 8 n) ≡ n
-  read_8 h = ap big_endian (sym spelled_8) ∙ sym (number_8 (to_be_bytes w64 n) refl) ∙ from_be_bytes-to_be_bytes_8 n h
-
--- six parts written one behind another over 96 zeros
-pub written : (s : State) {front docket one_byte seat0 seat1 last : List ℕ} → front ≡ mark → docket ≡ spelled 4 s.docket → one_byte ≡ s.at_match ∷ s.code ∷ s.turn ∷ kind_number s.kind ∷ []
-    → seat0 ≡ spelled 8 s.position.amounts.seat0 → seat1 ≡ spelled 8 s.position.amounts.seat1 → last ≡ s.position.«data»
-    → put_mid 29 67 (put_mid 21 8 (put_mid 13 8 (put_mid 9 4 (put_mid 5 4 (front ++ drop 5 (replicate 96 0)) docket) one_byte) seat0) seat1) last ≡ bytes_of s
-unfolding bytes_of spelled
-written s e1 e2 e3 e4 e5 e6 = rw (e1, e2, e3, e4, e5, e6, append-nil s.position.«data»)
+-- bytes that spell a number have its value
+read : (k n : ℕ) → n < 256 ^ k → big_endian (spelled k n) ≡ n
+read k n h = omega (arith, behind k 0 n, mod-eq_of_lt h)
 
 -- what is written of a state is read as that state
 module _ (s : State) (w : Writable s) where
   same_docket : docket_of (bytes_of s) ≡ s.docket
   unfolding docket_of bytes_of spelled
-  same_docket = read_4 s.docket w.docket
+  same_docket = read 4 s.docket w.docket
 
   same_position : position_of (bytes_of s) ≡ s.position
   unfolding position_of bytes_of spelled
   same_position =
-      rw (read_8 s.position.amounts.seat0 w.seat0, read_8 s.position.amounts.seat1 w.seat1, take_all 67 s.position.«data» (omega arith))
+      rw (read 8 s.position.amounts.seat0 w.seat0, read 8 s.position.amounts.seat1 w.seat1, take_all 67 s.position.«data» (omega arith))
 
   pub reads_back : state_of (bytes_of s) ≡ s
   unfolding bytes_of spelled
   reads_back = rw (same_docket, same_position, w.kind)
+
+-- six parts spell a state, and are read as it
+pub spells : (s : State) (docket seat0 seat1 content : List ℕ) (kind : ℕ) → docket ≡ to_be_bytes w32 s.docket → kind ≡ kind_number s.kind → seat0 ≡ to_be_bytes w64 s.position.amounts.seat0 → seat1 ≡ to_be_bytes w64 s.position.amounts.seat1 → content ≡ s.position.«data»
+    → 70 ∷ 77 ∷ 83 ∷ 0 ∷ 1 ∷ (docket ++ s.at_match ∷ s.code ∷ s.turn ∷ kind ∷ (seat0 ++ (seat1 ++ content))) ≡ bytes_of s
+unfolding bytes_of spelled
+spells s docket seat0 seat1 content kind e k e0 e1 same =
+    rw (e ∙ high_first 4 s.docket, k, e0 ∙ high_first 8 s.position.amounts.seat0, e1 ∙ high_first 8 s.position.amounts.seat1, same)

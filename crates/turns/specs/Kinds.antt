@@ -8,6 +8,10 @@ use Rattle.turns.specs.declared.state.Seat.TheVariants as S
 abbrev pub seat_at : ℕ → Seat
 seat_at turn = cond (turn % 2 == 0) S.Zero S.One
 
+abbrev pub seat_number : Seat → ℕ
+seat_number S.Zero = 0
+seat_number S.One = 1
+
 abbrev pub kind_number : Kind → ℕ
 kind_number K.PreFund = 0
 kind_number K.PostFund = 1

@@ -87,7 +87,7 @@ impl fmt::Display for Reason {
 }
 
 // A refusal in full: the match that the call was about, and the seat and the turn of the state that is blamed.
-// 255 stands for none.
+// 255 stands for none. Numbers, with no `Option`: people quote them, and a rule of the product names them so (docs/RULES.md).
 #[derive(Clone, Copy, PartialEq, Eq)]
 pub struct Refusal {
     pub reason: Reason,
@@ -121,7 +121,7 @@ impl Refusal {
             reason,
             layer,
             at_match,
-            seat: Seat::moving(turn) as u8,
+            seat: u8::from(Seat::moving(turn)),
             turn,
         }
     }

@@ -1,5 +1,5 @@
 ghost use Rattle.std.specs.Prelude.{◌≡◌, Some};
-ghost use Rattle.turns.specs.Kinds.{kind_at, kind_number, seat_at};
+ghost use Rattle.turns.specs.Kinds.{kind_at, kind_number, seat_at, seat_number};
 ghost use Rattle.turns.specs.Words.{kind_words};
 
 use std::fmt;
@@ -17,6 +17,14 @@ impl Seat {
         ensures { result ≡ seat_at turn }
     {
         if turn % 2 == 0 { Seat::Zero } else { Seat::One }
+    }
+}
+
+impl From<Seat> for u8 {
+    ghost from_gives = { λ seat n. n ≡ seat_number seat };
+
+    fn from(seat: Seat) -> u8 {
+        seat as u8
     }
 }
 
