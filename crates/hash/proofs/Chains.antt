@@ -1,12 +1,9 @@
 -- The hash value of a message that is joined of two, and what stays past its whole blocks.
-use Rattle.std.proofs.Common.{◌≡◌, ℕ, zero, suc, ◌+◌, ◌*◌, ◌/◌, ◌%◌, ◌<◌, ◌≤◌, List, [], ◌++◌, length, take, drop, sym, refl, ap, ◌∙◌, add-zero, add-suc, arith, length-append, length-drop, take-append-drop, fold, add-one}
+use Rattle.std.proofs.Common.{◌≡◌, ℕ, zero, suc, ◌+◌, ◌*◌, ◌/◌, ◌%◌, ◌<◌, ◌≤◌, List, [], ◌++◌, length, take, drop, sym, refl, ap, ◌∙◌, add-zero, add-suc, arith, length-append, length-drop, take-append-drop, fold}
 use Rattle.std.specs.Simd.{first_chunks}
 use Rattle.std.proofs.lemmas.List.{append_assoc, take-append-le, drop-append-le, drop-drop, drop_at, drop_all, take_all, length-take-le}
 use Rattle.hash.specs.Sha256.{compress, chain, chained, block}
 use Rattle.hash.specs.Streaming.{tail}
-
-chain_more : (h : List ℕ) (n : ℕ) (m : List ℕ) → chain h (n + 1) m ≡ compress (chain h n m) (block n m)
-chain_more h n m = rw add-one
 
 -- the first block stands before the others
 chain_shift : (h m : List ℕ) (n : ℕ) → chain (compress h (take 64 m)) n (drop 64 m) ≡ chain h (suc n) m

@@ -1,5 +1,7 @@
+pub mod Chunks
 mod Steps
 mod Chains
 mod Closings
+mod Folds
 mod Roots
 mod Streams

@@ -3,27 +3,21 @@ use Rattle.std.proofs.Common.{◌≡◌, ℕ, zero, suc, ◌+◌, ◌-◌, ◌*�
 use Rattle.std.specs.List.{zip}
 use Rattle.std.specs.Simd.{first_chunks}
 use Rattle.std.specs.Int.{from_be_bytes}
-use Rattle.std.proofs.lemmas.List.{take_more_set, length-take-le, get_or-take, get_or-drop, drop-drop, take_all}
+use Rattle.std.proofs.lemmas.List.{take_more_set, length-take-le, get_or-take, get_or-drop, take_all}
 use Rattle.std.proofs.lemmas.List.Sums.{fold_more, fold-append}
 use Rattle.std.proofs.lemmas.Slice.Zip.{length-zip, get_or-zip}
+use Rattle.hash.proofs.Chunks.{chunk_at}
 use Rattle.hash.specs.Sha256.{add, sigma_0, sigma_1, word, words, next, more, extend, round, rounds, round_constants}
-
-words_more : (n : ℕ) (b : List ℕ) → words (n + 1) b ≡ words n b ++ word n b ∷ []
-unfolding words
-words_more n b = rw add-one
-
-quad_at : (n t : ℕ) (b : List ℕ) → t < n → get_or (first_chunks 4 n b) t [] ≡ take 4 (drop (4 * t) b)
-quad_at zero t b lt = absurd (omega arith)
-quad_at (suc n) zero b lt = refl
-quad_at (suc n) (suc t) b lt =
-    let s : 4 + 4 * t ≡ 4 * suc t = omega arith in
-    quad_at n t (drop 4 b) (omega arith) ∙ ap (take 4) (drop-drop (4 * t) 4 b ∙ ap (λ k. drop k b) s)
 
 word_of : (n t : ℕ) (b : List ℕ) → t < n → from_be_bytes w32 (get_or (first_chunks 4 n b) t []) ≡ word t b
 unfolding word
 word_of n t b lt =
-    let byte = λ (j : ℕ) (l : j < 4). ap (λ q. get_or q j 0) (quad_at n t b lt) ∙ get_or-take 4 (drop (4 * t) b) j 0 l ∙ get_or-drop (4 * t) b j 0 in
+    let byte = λ (j : ℕ) (l : j < 4). ap (λ q. get_or q j 0) (chunk_at 4 n t b lt) ∙ get_or-take 4 (drop (4 * t) b) j 0 l ∙ get_or-drop (4 * t) b j 0 in
     rw (byte 0 (omega arith), byte 1 (omega arith), byte 2 (omega arith), byte 3 (omega arith), add-zero)
+
+words_more : (n : ℕ) (b : List ℕ) → words (n + 1) b ≡ words n b ++ word n b ∷ []
+unfolding words
+words_more n b = rw add-one
 
 pub words_step : (w b : List ℕ) (quads : List (List ℕ)) (n t x : ℕ) → t < length w → t < n → quads ≡ first_chunks 4 n b
     → x ≡ from_be_bytes w32 (get_or quads t []) → take t w ≡ words t b → take (t + 1) (set w t x) ≡ words (t + 1) b

@@ -10,6 +10,7 @@ use std::array;
 pub(crate) const BLOCK: usize = 64;
 
 // The sixteen words of a block, with room for the rest of the schedule.
+// In a loop: `map` over an array of sixteen is not unrolled, and hashing takes a quarter longer.
 fn first_words(block: &[u8; BLOCK]) -> [u32; 64]
     ensures { take 16 result ≡ words 16 block.now }
 {
@@ -32,7 +33,8 @@ fn next_word(w2: u32, w7: u32, w15: u32, w16: u32) -> u32
         .wrapping_add(w16)
 }
 
-// By index, since each word is made of earlier ones, and in rows of eight: a loop of eight is unrolled, and one of 48 is not.
+// By index, since each word is made of earlier ones, and in rows of eight: a loop of eight is unrolled,
+// and one of 48 is not and takes up to 5 % longer.
 fn schedule(block: &[u8; BLOCK]) -> [u32; 64]
     ensures { result ≡ schedule block.now }
 {
@@ -48,10 +50,10 @@ fn schedule(block: &[u8; BLOCK]) -> [u32; 64]
 
 // One round, given its constant and its word.
 #[tactic(auto, unfolding(crate::specs::Sha256::round, crate::specs::Sha256::big_sigma_0, crate::specs::Sha256::big_sigma_1))]
-fn one_round(v: [u32; 8], given: (u32, u32)) -> [u32; 8]
-    ensures { result ≡ round given.0 given.1 v }
+fn one_round(v: [u32; 8], given: (&u32, &u32)) -> [u32; 8]
+    ensures { result ≡ round given.entry.0.now given.entry.1.now v }
 {
-    let (k, w) = given;
+    let (&k, &w) = given;
     let [a, b, c, d, e, f, g, h] = v;
     let t1 = h
         .wrapping_add(big_sigma::<6, 11, 25>(e))
@@ -67,10 +69,7 @@ fn eight_rounds(v: [u32; 8], given: (&[u32; 8], &[u32; 8])) -> [u32; 8]
     ensures { result ≡ fold (λ v p. round p.0 p.1 v) v (zip given.entry.0.now given.entry.1.now) }
 {
     let (ks, ws) = given;
-    ks.iter()
-        .copied()
-        .zip(ws.iter().copied())
-        .fold(v, one_round)
+    ks.iter().zip(ws).fold(v, one_round)
 }
 
 // All rounds, eight at a time: a loop of eight is unrolled, and one of 64 is not and takes a fifth longer.

@@ -16,6 +16,7 @@ fn digest_of(value: [u32; 8]) -> [u8; 32]
 }
 
 // The digest of a message of `count` bytes, from the hash value after its whole blocks and from the rest.
+// Its last bytes are one block or two, so there is room for two and an `end` beside it: fixed memory.
 pub(crate) fn finished(value: [u32; 8], rest: &[u8], count: u64) -> [u8; 32]
     requires { length rest.now ≡ count % 64 }
     ensures { (m : List ℕ) → value ≡ chained start m → rest.now ≡ tail m → count ≡ length m % 2 ^ 64 → result ≡ sha_256 m }
