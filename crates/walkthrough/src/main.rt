@@ -6,6 +6,7 @@ mod judge;
 mod played;
 mod records;
 mod signed;
+mod table;
 mod wrong;
 
 use games::{RockPaperScissors, Shelf, TicTacToe, is_house_code};
@@ -80,27 +81,30 @@ fn main(rt: HostRuntime) -> io::Result<()> {
         first: RockPaperScissors,
         second: TicTacToe,
     };
-    let judge = Judge {
+    let throwing = Judge {
         rt: &rt,
         game: &shelf,
+        terms: &terms(0, 1),
     };
-    let throwing = terms(0, 1);
-    let marking = terms(1, 2);
-    let throws = rock_paper_scissors(&throwing);
-    let marks = tic_tac_toe(&marking);
+    let marking = Judge {
+        terms: &terms(1, 2),
+        ..throwing
+    };
+    let throws = rock_paper_scissors(throwing.terms);
+    let marks = tic_tac_toe(marking.terms);
     tell_house(&rt)?;
     println!(rt;
         "Two matches of docket 1 were recorded, each with dues 6 and 4 and a stake of 2."
     )?;
     println!(rt)?;
     println!(rt; "Match 0, Rock-Paper-Scissors:")?;
-    let good = judge.judge(&throwing, &throws)?;
+    let good = throwing.judge(&throws)?;
     verdict(&rt, good)?;
     println!(rt; "Match 1, Tic-Tac-Toe:")?;
-    let good = judge.judge(&marking, &marks)?;
+    let good = marking.judge(&marks)?;
     verdict(&rt, good)?;
     println!(rt; "Moves that are wrong, and what they get:")?;
-    refuse_all(&judge, &throwing, &marking)?;
+    refuse_all(&throwing, &marking)?;
     println!(rt)?;
     sign_both(&rt, &throws, &marks)
 }
