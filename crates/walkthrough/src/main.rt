@@ -6,6 +6,7 @@ mod judge;
 mod played;
 mod records;
 mod signed;
+mod table;
 mod wrong;
 
 use games::{RockPaperScissors, Shelf, TicTacToe, is_house_code};
@@ -38,20 +39,22 @@ fn tell_house(rt: &HostRuntime) -> io::Result<()> {
 }
 
 // Both matches under one scheme, from the enrolment to the last state.
-fn play_signed<S: Scheme>(
+fn play_signed<S: Scheme, P: Fn(&[u8]) -> Option<[u8; PUBLIC_LEN]>>(
     rt: &HostRuntime,
     scheme: &mut S,
-    publics: [Option<[u8; PUBLIC_LEN]>; 4],
-    throws: &[State],
-    marks: &[State],
-) -> io::Result<()> {
+    public_key: P,
+    matches: [&[State]; 2],
+) -> io::Result<()>
+    requires { P.IsAlwaysCallable public_key }
+{
     let mut signing = Signing { rt, scheme };
-    signing.enrol_seats(publics)?;
-    println!(rt; "  match 0:")?;
-    let first = signing.sign_match(throws)?;
-    println!(rt; "  match 1:")?;
-    let second = signing.sign_match(marks)?;
-    let words = if first && second {
+    signing.enrol_seats([0, 1, 2, 3].map(|key| public_key(&secret(key))))?;
+    let mut good = true;
+    for (at_match, states) in (0..).zip(matches) {
+        println!(rt; "  match {at_match}:")?;
+        good &= signing.sign_match(states)?;
+    }
+    let words = if good {
         "Every state of both matches is signed by its mover, and every signature checks."
     } else {
         "Not every signature checks."
@@ -59,20 +62,18 @@ fn play_signed<S: Scheme>(
     println!(rt; "{words}")?;
     println!(rt)?;
     println!(rt; "What else this scheme is asked:")?;
-    match throws {
+    match matches[0] {
         [state, ..] => signing.refuse_signings(state)?,
         [] => println!(rt; "  nothing was signed")?,
     }
     println!(rt)
 }
 
-fn sign_both(rt: &HostRuntime, throws: &[State], marks: &[State]) -> io::Result<()> {
+fn sign_both(rt: &HostRuntime, matches: [&[State]; 2]) -> io::Result<()> {
     println!(rt; "Signed by the register scheme:")?;
-    let publics = [0, 1, 2, 3].map(|key| Register::public_key(&secret(key)));
-    play_signed(rt, &mut Register::new(), publics, throws, marks)?;
+    play_signed(rt, &mut Register::new(), Register::public_key, matches)?;
     println!(rt; "Signed by the one-time scheme:")?;
-    let publics = [0, 1, 2, 3].map(|key| OneTime::public_key(&secret(key)));
-    play_signed(rt, &mut OneTime::new(), publics, throws, marks)
+    play_signed(rt, &mut OneTime::new(), OneTime::public_key, matches)
 }
 
 fn main(rt: HostRuntime) -> io::Result<()> {
@@ -80,27 +81,30 @@ fn main(rt: HostRuntime) -> io::Result<()> {
         first: RockPaperScissors,
         second: TicTacToe,
     };
-    let judge = Judge {
+    let throwing = Judge {
         rt: &rt,
         game: &shelf,
+        terms: &terms(0, 1),
     };
-    let throwing = terms(0, 1);
-    let marking = terms(1, 2);
-    let throws = rock_paper_scissors(&throwing);
-    let marks = tic_tac_toe(&marking);
+    let marking = Judge {
+        terms: &terms(1, 2),
+        ..throwing
+    };
+    let throws = rock_paper_scissors(throwing.terms);
+    let marks = tic_tac_toe(marking.terms);
     tell_house(&rt)?;
     println!(rt;
         "Two matches of docket 1 were recorded, each with dues 6 and 4 and a stake of 2."
     )?;
     println!(rt)?;
     println!(rt; "Match 0, Rock-Paper-Scissors:")?;
-    let good = judge.judge(&throwing, &throws)?;
+    let good = throwing.judge(&throws)?;
     verdict(&rt, good)?;
     println!(rt; "Match 1, Tic-Tac-Toe:")?;
-    let good = judge.judge(&marking, &marks)?;
+    let good = marking.judge(&marks)?;
     verdict(&rt, good)?;
     println!(rt; "Moves that are wrong, and what they get:")?;
-    refuse_all(&judge, &throwing, &marking)?;
+    refuse_all(&throwing, &marking)?;
     println!(rt)?;
-    sign_both(&rt, &throws, &marks)
+    sign_both(&rt, [&throws, &marks])
 }

@@ -1,19 +1,20 @@
 // What a state's mover played, in words.
-use crate::records::Throw;
+use crate::table::{Table, Throw};
 use std::fmt;
-use turns::{DATA_LEN, Kind, State};
+use turns::{Kind, State};
 
 #[derive(Clone, Copy)]
 pub(crate) enum Played {
     Agrees,
     Confirms,
     Commits,
-    Throws(Option<Throw>),
-    Shows(Option<Throw>),
+    Throws(Throw),
+    Shows(Throw),
     Crosses(u32),
     Noughts(u32),
     Clears,
     Concludes,
+    Nothing,
 }
 
 impl fmt::Display for Played {
@@ -22,49 +23,45 @@ impl fmt::Display for Played {
             Played::Agrees => f.write_str("agrees to the dues"),
             Played::Confirms => f.write_str("confirms the deposits"),
             Played::Commits => f.write_str("commits to a throw"),
-            Played::Throws(Some(throw)) => write!(f, "throws {throw}"),
-            Played::Throws(None) => f.write_str("throws no throw"),
-            Played::Shows(Some(throw)) => write!(f, "shows {throw}"),
-            Played::Shows(None) => f.write_str("shows no throw"),
+            Played::Throws(throw) => write!(f, "throws {throw}"),
+            Played::Shows(throw) => write!(f, "shows {throw}"),
             Played::Crosses(cell) => write!(f, "sets a cross into cell {cell}"),
             Played::Noughts(cell) => write!(f, "sets a nought into cell {cell}"),
             Played::Clears => f.write_str("clears the table"),
             Played::Concludes => f.write_str("concludes"),
+            Played::Nothing => f.write_str("plays nothing that has a meaning"),
         }
-    }
-}
-
-// The crosses and the noughts of a board.
-fn masks(data: &[u8; DATA_LEN]) -> (u16, u16) {
-    let crosses = u16::from_be_bytes([data[1], data[2]]);
-    let noughts = u16::from_be_bytes([data[3], data[4]]);
-    (crosses, noughts)
-}
-
-fn marked(before: &[u8; DATA_LEN], after: &[u8; DATA_LEN]) -> Played {
-    let (crosses, noughts) = masks(before);
-    let (more_crosses, more_noughts) = masks(after);
-    match crosses ^ more_crosses {
-        0 => Played::Noughts((noughts ^ more_noughts).trailing_zeros()),
-        mark => Played::Crosses(mark.trailing_zeros()),
     }
 }
 
 impl Played {
     // What led from one state to the next.
     pub(crate) fn between(before: &State, after: &State) -> Played {
-        let data = &after.position.data;
         match after.kind {
             Kind::PreFund => Played::Agrees,
             Kind::PostFund => Played::Confirms,
             Kind::Conclude => Played::Concludes,
-            Kind::Game => match (after.code, data[0]) {
-                (_, 0) => Played::Clears,
-                (1, 1) => Played::Commits,
-                (1, 2) => Played::Throws(Throw::try_from(data[33]).ok()),
-                (1, _) => Played::Shows(Throw::try_from(data[34]).ok()),
-                _ => marked(&before.position.data, data),
+            Kind::Game => match (Table::try_from(before), Table::try_from(after)) {
+                (Ok(before), Ok(after)) => Played::on_table(before, after),
+                _ => Played::Nothing,
             },
+        }
+    }
+
+    fn on_table(before: Table, after: Table) -> Played {
+        match after {
+            Table::Empty => Played::Clears,
+            Table::Committed => Played::Commits,
+            Table::Answered(second) => Played::Throws(second),
+            Table::Shown { first, .. } => Played::Shows(first),
+            Table::Marked(..) | Table::Ended(..) => {
+                let (crosses, noughts) = before.marks();
+                let (more_crosses, more_noughts) = after.marks();
+                match crosses ^ more_crosses {
+                    0 => Played::Noughts((noughts ^ more_noughts).trailing_zeros()),
+                    cross => Played::Crosses(cross.trailing_zeros()),
+                }
+            }
         }
     }
 }

@@ -1,7 +1,8 @@
 // Takes the recorded matches through a signature scheme, and tells what it does in words.
+use crate::judge::head;
 use schemes::{Message, PUBLIC_LEN, SECRET_LEN, Scheme, sign_and_check};
 use std::io;
-use turns::{STATE_LEN, State, digest};
+use turns::{STATE_LEN, Seat, State, digest};
 
 // Room for the longest signature that the program shows.
 const ROOM: usize = 2304;
@@ -15,7 +16,7 @@ fn key_of(state: &State) -> u8 {
     state
         .at_match
         .saturating_mul(2)
-        .saturating_add(state.turn % 2)
+        .saturating_add(Seat::moving(state.turn) as u8)
 }
 
 // What the keeper of a key keeps to itself, in this story.
@@ -64,8 +65,7 @@ impl<S: Scheme> Signing<'_, S> {
             Ok(good) => {
                 let said = if good { "checks" } else { "does not check" };
                 let len = S::L;
-                let [a, b, c, d, ..] = digest;
-                let head = u32::from_be_bytes([a, b, c, d]);
+                let head = head(&digest);
                 println!(self.rt;
                     "  turn {turn:>2}  key {key}  digest {head:08x}  signed in {len} bytes, and it {said}"
                 )?;

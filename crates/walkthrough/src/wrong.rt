@@ -1,6 +1,7 @@
 // Moves that the rules do not allow.
 use crate::judge::Judge;
-use crate::records::{ANSWERED, Table, Throw, ended, marked, shown, state};
+use crate::records::{ANSWERED, shown, state};
+use crate::table::{Table, Throw};
 use std::io;
 use turns::{Game, Kind, STATE_LEN, State, Terms};
 
@@ -13,57 +14,57 @@ struct Wrong {
 }
 
 fn wrong_throws(t: &Terms) -> [Wrong; 3] {
-    let thrown = state(t, 5, Kind::Game, 4, 6, ANSWERED);
+    let thrown = state(t, 5, Kind::Game, (4, 6), ANSWERED);
     [
         Wrong {
             what: "a throw that does not match its commitment",
             before: thrown,
-            after: state(t, 6, Kind::Game, 4, 6, shown(Throw::Scissors)),
+            after: state(t, 6, Kind::Game, (4, 6), shown(Throw::Scissors)),
         },
         Wrong {
             what: "paper on rock for one stake instead of two",
             before: thrown,
-            after: state(t, 6, Kind::Game, 6, 4, shown(Throw::Paper)),
+            after: state(t, 6, Kind::Game, (6, 4), shown(Throw::Paper)),
         },
         Wrong {
             what: "a Conclude with other amounts",
             before: thrown,
-            after: state(t, 6, Kind::Conclude, 6, 4, ANSWERED),
+            after: state(t, 6, Kind::Conclude, (6, 4), ANSWERED),
         },
     ]
 }
 
 fn wrong_marks(t: &Terms) -> [Wrong; 4] {
-    let funded = state(t, 3, Kind::PostFund, 6, 4, Table::Empty);
-    let eight = state(t, 11, Kind::Game, 4, 6, marked(51, 204));
-    let late = state(t, 25, Kind::Game, 4, 6, marked(51, 204));
+    let funded = state(t, 3, Kind::PostFund, (6, 4), Table::Empty);
+    let eight = state(t, 11, Kind::Game, (4, 6), Table::Marked(51, 204));
+    let late = state(t, 25, Kind::Game, (4, 6), Table::Marked(51, 204));
     [
         Wrong {
             what: "amounts kept at a first mark",
             before: funded,
-            after: state(t, 4, Kind::Game, 6, 4, marked(16, 0)),
+            after: state(t, 4, Kind::Game, (6, 4), Table::Marked(16, 0)),
         },
         Wrong {
             what: "a full board called a draw over a line",
             before: eight,
-            after: state(t, 12, Kind::Game, 6, 4, ended(307, 204)),
+            after: state(t, 12, Kind::Game, (6, 4), Table::Ended(307, 204)),
         },
         Wrong {
             what: "a Game state at turn 26",
             before: late,
-            after: state(t, 26, Kind::Game, 8, 2, ended(307, 204)),
+            after: state(t, 26, Kind::Game, (8, 2), Table::Ended(307, 204)),
         },
         Wrong {
             what: "a move that leaves out a turn",
             before: funded,
-            after: state(t, 5, Kind::Game, 4, 6, marked(16, 0)),
+            after: state(t, 5, Kind::Game, (4, 6), Table::Marked(16, 0)),
         },
     ]
 }
 
-fn refuse_each<G: Game>(judge: &Judge<'_, G>, t: &Terms, moves: &[Wrong]) -> io::Result<()> {
+fn refuse_each<G: Game>(judge: &Judge<'_, G>, moves: &[Wrong]) -> io::Result<()> {
     for m in moves {
-        judge.refuse(t, m.what, &m.before, &m.after.write())?;
+        judge.refuse(m.what, &m.before, &m.after.write())?;
     }
     Ok(())
 }
@@ -73,25 +74,25 @@ fn cut_short(bytes: &[u8; STATE_LEN]) -> &[u8] {
 }
 
 // States that are not proper, whatever came earlier.
-fn refuse_improper<G: Game>(judge: &Judge<'_, G>, t: &Terms, other: &Terms) -> io::Result<()> {
-    let funded = state(t, 3, Kind::PostFund, 6, 4, Table::Empty);
-    let first = state(t, 4, Kind::Game, 8, 2, marked(16, 0)).write();
-    judge.refuse(t, "a state that is cut short", &funded, cut_short(&first))?;
+fn refuse_improper<G: Game>(judge: &Judge<'_, G>, other: &Terms) -> io::Result<()> {
+    let t = judge.terms;
+    let funded = state(t, 3, Kind::PostFund, (6, 4), Table::Empty);
+    let first = state(t, 4, Kind::Game, (8, 2), Table::Marked(16, 0)).write();
+    judge.refuse("a state that is cut short", &funded, cut_short(&first))?;
     let mut another_mark = first;
     another_mark[0] = b'G';
-    judge.refuse(t, "a state with another mark", &funded, &another_mark)?;
-    let elsewhere = state(other, 4, Kind::Game, 8, 2, marked(16, 0)).write();
-    judge.refuse(t, "a state of another match", &funded, &elsewhere)?;
-    let rich = state(t, 4, Kind::Game, 9, 2, marked(16, 0)).write();
-    judge.refuse(t, "amounts above the total", &funded, &rich)
+    judge.refuse("a state with another mark", &funded, &another_mark)?;
+    let elsewhere = state(other, 4, Kind::Game, (8, 2), Table::Marked(16, 0)).write();
+    judge.refuse("a state of another match", &funded, &elsewhere)?;
+    let rich = state(t, 4, Kind::Game, (9, 2), Table::Marked(16, 0)).write();
+    judge.refuse("amounts above the total", &funded, &rich)
 }
 
 pub(crate) fn refuse_all<G: Game>(
-    judge: &Judge<'_, G>,
-    throwing: &Terms,
-    marking: &Terms,
+    throwing: &Judge<'_, G>,
+    marking: &Judge<'_, G>,
 ) -> io::Result<()> {
-    refuse_each(judge, throwing, &wrong_throws(throwing))?;
-    refuse_each(judge, marking, &wrong_marks(marking))?;
-    refuse_improper(judge, marking, throwing)
+    refuse_each(throwing, &wrong_throws(throwing.terms))?;
+    refuse_each(marking, &wrong_marks(marking.terms))?;
+    refuse_improper(marking, throwing.terms)
 }
