@@ -1,4 +1,7 @@
-use Rattle.std.proofs.Common.{◌≡◌, ℕ, zero, suc, ◌+◌, ◌*◌, ◌<◌, List, [], ◌∷◌, get_or, ap, ◌∙◌, arith}
+use Rattle.std.proofs.Common.{◌≡◌, ℕ, zero, suc, ◌+◌, ◌*◌, ◌/◌, ◌<◌, List, [], ◌∷◌, length, get_or, map, ap, ◌∙◌, add-zero, arith, lit<}
+use Rattle.std.specs.Simd.{first_chunks}
+use Rattle.std.proofs.lemmas.List.{get_or-map}
+use Rattle.onetime.proofs.Runs.{pair_at}
 use Rattle.onetime.specs.Chains.{leaf_of}
 use Rattle.onetime.specs.Hashes.{node}
 use Rattle.onetime.specs.Trees.{Level, beside, sibling, above, tree}
@@ -15,8 +18,17 @@ module _ (secret : List ℕ) where
         ap (λ (x : List ℕ). node level x (get_or below (2 * i + 1) [])) (was (2 * i) (omega arith))
         ∙ ap (λ (x : List ℕ). node level (tree secret level (2 * i)) x) (was (2 * i + 1) (omega arith))
 
-    pub level_up : (nodes : List (List ℕ)) → ((i : ℕ) → i < n → get_or nodes i [] ≡ node level (get_or below (2 * i) []) (get_or below (2 * i + 1) [])) → Level secret (suc level) n nodes
-    level_up nodes made i low = made i low ∙ over i low
+    -- the nodes over the pairs of a level
+    pub level_up : (pairs : List (List (List ℕ))) (nodes : List (List ℕ)) → length below ≡ 2 * n → length pairs ≡ n → pairs ≡ first_chunks 2 (length below / 2) below
+        → nodes ≡ map (λ pair. node level (get_or pair 0 []) (get_or pair 1 [])) pairs → Level secret (suc level) n nodes
+    level_up pairs nodes long many cut made i low =
+        let half : i < length below / 2 = omega arith in
+        let child = λ (j : ℕ) (small : j < 2). ap (λ (p : List (List (List ℕ))). get_or (get_or p i []) j []) cut ∙ pair_at (length below / 2) i j below half small in
+        ap (λ (l : List (List ℕ)). get_or l i []) made
+        ∙ get_or-map (λ pair. node level (get_or pair 0 []) (get_or pair 1 [])) pairs i [] [] (omega arith)
+        ∙ ap (λ (x : List ℕ). node level x (get_or (get_or pairs i []) 1 [])) (simp add-zero at (child 0 (lit< tt)))
+        ∙ ap (λ (x : List ℕ). node level (get_or below (2 * i) []) x) (child 1 (lit< tt))
+        ∙ over i low
 
   -- a sibling, read from its level
   pub sibling_stands : (level n turn i at : ℕ) (nodes : List (List ℕ)) → Level secret level n nodes → at ≡ beside i → at < n → i ≡ above turn level → get_or nodes at [] ≡ sibling secret turn level

@@ -35,7 +35,7 @@ pub nibbles_joined : (xs : List ℕ) → flat_map (λ x. x) (map (λ b. b / 16 %
 nibbles_joined [] = refl
 nibbles_joined (x ∷ xs) = ap (λ (l : List ℕ). x / 16 % 16 ∷ (x % 16 ∷ l)) (nibbles_joined xs)
 
-pub nibbles_length : (xs : List ℕ) → length (nibbles xs) ≡ 2 * length xs
+nibbles_length : (xs : List ℕ) → length (nibbles xs) ≡ 2 * length xs
 nibbles_length [] = refl
 nibbles_length (x ∷ xs) = omega (arith, nibbles_length xs)
 

@@ -1,19 +1,12 @@
-use Rattle.std.proofs.Common.{◌≡◌, ℕ, zero, suc, ◌+◌, ◌-◌, ◌*◌, ◌<◌, ◌≤◌, List, [], ◌∷◌, ◌++◌, length, get_or, take, drop, map, sym, refl, ap, ◌∙◌, inl, inr, mul-zero, mul-suc, add-one, arith}
+use Rattle.std.proofs.Common.{◌≡◌, ℕ, zero, suc, ◌+◌, ◌-◌, ◌*◌, ◌<◌, ◌≤◌, List, [], ◌∷◌, ◌++◌, length, get_or, take, drop, map, sym, refl, ap, ◌∙◌, inl, inr, mul-suc, add-one, arith}
 use Rattle.std.specs.List.{flat_map, range_with_len}
 use Rattle.std.specs.Simd.{first_chunks}
-use Rattle.std.proofs.lemmas.List.{append_assoc, append-nil, drop_at, drop-drop, get_or-drop, get_or-take, length-append, take_at}
+use Rattle.std.proofs.lemmas.List.{append_assoc, append-nil, drop_at, get_or-drop, get_or-take, length-append, take_at}
 use Rattle.std.proofs.lemmas.List.Concat.{flat_map-append}
 use Rattle.std.proofs.lemmas.List.FromFn.{fill_by_all, map-range_with_len_more}
 use Rattle.std.proofs.lemmas.Bool.{cases_order}
+use Rattle.hash.proofs.Chunks.{chunk_at}
 use Rattle.onetime.specs.Blocks.{hash_at, joined_to}
-
--- chunk i of a list that is cut into chunks of n
-pub chunk_at : {X : Type 0} (n m i : ℕ) (xs : List X) → i < m → get_or (first_chunks n m xs) i [] ≡ take n (drop (n * i) xs)
-chunk_at n zero i xs h = absurd (omega arith)
-chunk_at n (suc m) zero xs h = simp mul-zero
-chunk_at n (suc m) (suc i) xs h =
-    let next : n + n * i ≡ n * suc i = omega (arith, mul-suc n i) in
-    chunk_at n m i (drop n xs) (omega arith) ∙ ap (take n) (drop-drop (n * i) n xs ∙ ap (λ (k : ℕ). drop k xs) next)
 
 -- pair i of a list that is cut into pairs
 pub pair_at : (m i j : ℕ) (xs : List (List ℕ)) → i < m → j < 2 → get_or (get_or (first_chunks 2 m xs) i []) j [] ≡ get_or xs (2 * i + j) []

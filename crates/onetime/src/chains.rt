@@ -10,7 +10,7 @@ const START_LEN: usize = 3 + HASH_LEN;
 const STEP_LEN: usize = 4 + HASH_LEN;
 
 // The last position of a chain.
-const END: u8 = 15;
+pub(crate) const END: u8 = 15;
 
 // A chain of a turn.
 #[derive(Clone, Copy)]
@@ -34,7 +34,7 @@ impl Chain {
         hash_of::<STEP_LEN>(&[1, self.turn, self.number, position], value)
     }
 
-    // Walks a value on, from a position to another.
+    // Walks a value on, from a position to another. The position goes into the hash of its step; it indexes nothing.
     #[inline(always)]
     #[tactic(auto, unfolding(crate::specs::Chains::walk))]
     fn walk(self, from: u8, to: u8, start: Hash) -> Hash
@@ -46,47 +46,48 @@ impl Chain {
         }
         value
     }
+}
 
-    // The value at a position.
-    fn at(self, position: u8, secret: &Hash) -> Hash
-        ensures { result ≡ chain_at secret.now self.turn self.number position }
-    {
-        self.walk(0, position, self.start(secret))
-    }
+// Where the chains of a turn start.
+fn starts(turn: u8, secret: &Hash) -> [Hash; CHAINS]
+    ensures { (i : ℕ) → i < 67 → slice_index_or result i [] ≡ chain_start secret.now turn i }
+{
+    array::from_fn(
+        |i|
+            requires { i < 67 }
+            ensures { result ≡ chain_start secret.entry.now turn i }
+        {
+            let number = i as u8;
+            Chain { turn, number }.start(secret)
+        },
+    )
+}
+
+// The chains of a turn, each walked on from a position to another.
+pub(crate) fn walked(
+    turn: u8,
+    from: &[u8; CHAINS],
+    to: &[u8; CHAINS],
+    values: &[Hash; CHAINS],
+) -> [Hash; CHAINS]
+    ensures { (i : ℕ) → i < 67 → slice_index_or result i [] ≡ walk turn i (slice_index from.now i) (slice_index to.now i - slice_index from.now i) (slice_index_or values.now i []) }
+{
+    array::from_fn(
+        |i|
+            requires { i < 67 }
+            ensures { result ≡ walk turn i (slice_index from.entry.now i) (slice_index to.entry.now i - slice_index from.entry.now i) (slice_index_or values.entry.now i []) }
+        {
+            let number = i as u8;
+            Chain { turn, number }.walk(from[i], to[i], values[i])
+        },
+    )
 }
 
 // The chains of a turn, each at its position.
 pub(crate) fn chains_at(turn: u8, positions: &[u8; CHAINS], secret: &Hash) -> [Hash; CHAINS]
     ensures { (i : ℕ) → i < 67 → slice_index_or result i [] ≡ chain_at secret.now turn i (slice_index positions.now i) }
 {
-    array::from_fn(
-        |i|
-            requires { i < 67 }
-            ensures { result ≡ chain_at secret.entry.now turn i (slice_index positions.entry.now i) }
-        {
-            let number = i as u8;
-            Chain { turn, number }.at(positions[i], secret)
-        },
-    )
-}
-
-// The chains of a turn, each walked on from its position to its end.
-pub(crate) fn finished_chains(
-    turn: u8,
-    positions: &[u8; CHAINS],
-    chains: &[Hash; CHAINS],
-) -> [Hash; CHAINS]
-    ensures { (i : ℕ) → i < 67 → slice_index_or result i [] ≡ walk turn i (slice_index positions.now i) (15 - slice_index positions.now i) (slice_index_or chains.now i []) }
-{
-    array::from_fn(
-        |i|
-            requires { i < 67 }
-            ensures { result ≡ walk turn i (slice_index positions.entry.now i) (15 - slice_index positions.entry.now i) (slice_index_or chains.entry.now i []) }
-        {
-            let number = i as u8;
-            Chain { turn, number }.walk(positions[i], END, chains[i])
-        },
-    )
+    walked(turn, &[0; CHAINS], positions, &starts(turn, secret))
 }
 
 // The leaf of a turn.

@@ -2,7 +2,7 @@ ghost use Rattle.std.specs.Prelude.{◌≡◌, ℕ, [], slice_index_or};
 ghost use Rattle.onetime.specs.Signatures.{leads_to};
 ghost use Rattle.onetime.specs.Trees.{climb};
 
-use crate::chains::finished_chains;
+use crate::chains::{END, walked};
 use crate::digits::digits_of;
 use crate::parts::{CHAINS, HASH_LEN, Hash, LEVELS, SIGNATURE_LEN, leaf, node, whole};
 use schemes::DIGEST_LEN;
@@ -30,6 +30,6 @@ pub(crate) fn leads_to(turn: u8, digest: &[u8; DIGEST_LEN], signature: &[u8; SIG
 {
     let (hashes, _) = signature.as_chunks::<HASH_LEN>();
     let (chains, path) = hashes.split_first_chunk::<CHAINS>().unwrap();
-    let ends = finished_chains(turn, &digits_of(digest), chains);
+    let ends = walked(turn, &digits_of(digest), &[END; CHAINS], chains);
     climb(turn, leaf(turn, &ends), whole(path))
 }

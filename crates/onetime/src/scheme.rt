@@ -21,12 +21,16 @@ pub struct OneTime {
     pages: Pages<bool>,
 }
 
-// The root of a secret's tree, with what is proved of the scheme.
-fn root_of(secret: &[u8]) -> Option<[u8; PUBLIC_LEN]>
-    ensures answer { result ≡ public_key secret.now }
+// What holds of the scheme.
+fn laws()
     ensures chains { ChainsMeet }
     ensures paths { PathsLeadUp }
     ensures accepted { SignaturesAccepted }
+{}
+
+// The root of a secret's tree.
+fn root_of(secret: &[u8]) -> Option<[u8; PUBLIC_LEN]>
+    ensures { result ≡ public_key secret.now }
 {
     let secret = secret.as_array()?;
     Some(Tree::of(secret).root)
@@ -67,6 +71,7 @@ impl OneTime {
         ensures paths { PathsLeadUp }
         ensures accepted { SignaturesAccepted }
     {
+        laws();
         root_of(secret)
     }
 

@@ -1,14 +1,14 @@
-ghost use Rattle.std.specs.Prelude.{◌≡◌, ℕ, List, ◌+◌, ◌*◌, ◌/◌, ◌<◌, ◌^◌, [], length, slice_index_or};
+ghost use Rattle.std.specs.Prelude.{◌≡◌, ℕ, List, ◌+◌, ◌*◌, ◌/◌, ◌<◌, ◌≤◌, ◌^◌, [], map, length, slice_index_or};
 ghost use Rattle.onetime.specs.Chains.{leaf_of};
 ghost use Rattle.onetime.specs.Hashes.{node};
 ghost use Rattle.onetime.specs.Trees.{Grown, beside, sibling};
 
 use crate::chains::leaf_of;
-use crate::parts::{Hash, LEVELS, node};
+use crate::parts::{Hash, LEVELS, node, whole};
 use schemes::{Place, TURNS};
 use std::array;
 
-// All nodes of a secret's tree, level by level from the leaves up.
+// All nodes of a secret's tree, level by level from the leaves up. Each level has a size of its own, and there is no heap.
 #[derive(Drop)]
 pub(crate) struct Tree {
     leaves: [Hash; TURNS],
@@ -19,17 +19,15 @@ pub(crate) struct Tree {
     pub(crate) root: Hash,
 }
 
-// The N nodes over two of a level each.
-fn nodes_over<const N: usize>(level: u8, below: &[Hash]) -> [Hash; N]
-    requires { length below.now ≡ 2 * N }
-    ensures { (i : ℕ) → i < N → slice_index_or result i [] ≡ node level (slice_index_or below.now (2 * i) []) (slice_index_or below.now (2 * i + 1) []) }
+// The nodes over the pairs of a level, which are few, as `map` asks.
+fn nodes_over<const N: usize>(level: u8, below: &[[Hash; 2]; N]) -> [Hash; N]
+    requires small { N ≤ 16 }
+    ensures { result ≡ map (λ pair. node level (slice_index_or pair 0 []) (slice_index_or pair 1 [])) below.now }
 {
-    let (pairs, _) = below.as_chunks::<2>();
-    array::from_fn(
-        |i|
-            requires { i < length pairs.now }
-            ensures { result ≡ node level (slice_index_or (slice_index_or pairs.entry.now i []) 0 []) (slice_index_or (slice_index_or pairs.entry.now i []) 1 []) }
-        { node(level, &pairs[i]) },
+    below.map(
+        |pair|
+            ensures { result ≡ node level (slice_index_or pair 0 []) (slice_index_or pair 1 []) }
+        { node(level, &pair) },
     )
 }
 
@@ -51,10 +49,10 @@ impl Tree {
                 ensures { result ≡ leaf_of secret.entry.now turn }
             { leaf_of(turn as u8, secret) },
         );
-        let level_1 = nodes_over(0, &leaves);
-        let level_2 = nodes_over(1, &level_1);
-        let level_3 = nodes_over(2, &level_2);
-        let level_4 = nodes_over(3, &level_3);
+        let level_1 = nodes_over(0, whole(leaves.as_chunks().0));
+        let level_2 = nodes_over(1, whole(level_1.as_chunks().0));
+        let level_3 = nodes_over(2, whole(level_2.as_chunks().0));
+        let level_4 = nodes_over(3, whole(level_3.as_chunks().0));
         let root = node(4, &level_4);
         Tree {
             leaves,

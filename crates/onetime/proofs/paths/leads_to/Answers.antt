@@ -1,5 +1,5 @@
 use Rattle.std.proofs.Common.{ℕ, ◌+◌, ◌-◌, ◌/◌, ◌<◌, List, [], length, get_or, ap, ◌∙◌, arith, rules}
-use Rattle.std.proofs.lemmas.List.{get_or-drop, get_or-take}
+use Rattle.std.proofs.lemmas.List.{get_or-drop, get_or-replicate, get_or-take}
 use Rattle.onetime.specs.Blocks.{hash_at}
 use Rattle.onetime.specs.Chains.{walk}
 use Rattle.onetime.specs.Digits.{digit}
@@ -22,9 +22,10 @@ returns c =
     let chain = λ (i : ℕ) (low : i < 67). ap (λ (l : List (List ℕ)). get_or l i []) first.0 ∙ get_or-take 67 hashes i [] low ∙ at i (omega arith) in
     let sibling = λ (v : ℕ) (low : v < 5). ap (λ (l : List (List ℕ)). get_or l v []) (c.whole.ensures ∙ first.1) ∙ get_or-drop 67 hashes v [] ∙ at (67 + v) (omega arith) in
     let ends =
-    flattened (λ i. walk turn i (digit digest i) (15 - digit digest i) (hash_at i s)) c.finished_chains-ends.result 67 (search rules)
+    flattened (λ i. walk turn i (digit digest i) (15 - digit digest i) (hash_at i s)) c.walked-ends.result 67 (search rules)
     (λ i low.
-    c.finished_chains-ends.ensures i low
+    c.walked-ends.ensures i low
+    ∙ ap (λ (n : ℕ). walk turn i (get_or c.digits_of.result i 0) (n - get_or c.digits_of.result i 0) (get_or chains i [])) (get_or-replicate 67 i 15 0 low)
     ∙ ap (λ (ds : List ℕ). walk turn i (get_or ds i 0) (15 - get_or ds i 0) (get_or chains i [])) c.digits_of.ensures
     ∙ ap (walk turn i (digit digest i) (15 - digit digest i)) (chain i low)) in
     c.climb.ensures
