@@ -1,4 +1,5 @@
 // Tables of steps with the answers that the rules of the games give. The stake is 2.
+use crate::bytes::with;
 use games::{RockPaperScissors, Shelf, TicTacToe};
 use hash::sha256;
 use std::process::Abort;
@@ -37,15 +38,8 @@ fn throws(phase: u8, word: u8, second: u8, first: u8) -> [u8; DATA_LEN] {
     data
 }
 
-fn with(data: [u8; DATA_LEN], at: usize, byte: u8) -> [u8; DATA_LEN] {
-    let mut changed = data;
-    if at < DATA_LEN {
-        changed[at] = byte;
-    }
-    changed
-}
-
 // One row: the later turn, amounts and data before and behind the step, and whether it is lawful.
+// A tuple: with named fields each of the 64 rows would take eight lines.
 type Row = (
     u8,
     (u64, u64),
