@@ -48,10 +48,7 @@ fn a_million_letters(rt: HostRuntime) -> Result<(), Fail> {
 fn every_length(rt: HostRuntime) -> Result<(), Fail> {
     let bytes = pattern();
     for (n, digest) in DIGESTS.iter().enumerate() {
-        let Some(message) = bytes.get(0..n) else {
-            return Err(Fail::new("the pattern is too short"));
-        };
-        assert!(rt; sha256(message) == spelled(digest)?);
+        assert!(rt; sha256(&bytes[..n]) == spelled(digest)?);
     }
     Ok(())
 }

@@ -18,9 +18,9 @@ const TERMS: Terms = Terms {
 
 fn state(turn: u8, kind: Kind, (seat0, seat1): (u64, u64)) -> State {
     State {
-        docket: 7,
-        at_match: 3,
-        code: 2,
+        docket: TERMS.docket,
+        at_match: TERMS.at_match,
+        code: TERMS.code,
         turn,
         kind,
         position: Position {

@@ -18,6 +18,7 @@ fn position((seat0, seat1): (u64, u64), data: [u8; DATA_LEN]) -> Position {
     }
 }
 
+// Phases and throws are numbers here: some rows have ones that no game knows.
 fn board(phase: u8, crosses: u16, noughts: u16) -> [u8; DATA_LEN] {
     let mut data = EMPTY;
     data[0] = phase;
