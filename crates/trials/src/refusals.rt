@@ -3,7 +3,7 @@ use std::process::Abort;
 use std::test::Fail;
 use turns::{Layer, Refusal};
 
-// Number, layer, match, seat and turn.
+// Number, layer, match, seat and turn. No `Refusal`: its reason would take the number from what is tested.
 pub(crate) type Said = (u8, Layer, u8, u8, u8);
 
 pub(crate) fn says<T: Drop>(

@@ -1,4 +1,5 @@
 // Tables of steps with the answers that the rules of the games give. The stake is 2.
+use crate::bytes::with;
 use games::{RockPaperScissors, Shelf, TicTacToe};
 use hash::sha256;
 use std::process::Abort;
@@ -17,6 +18,7 @@ fn position((seat0, seat1): (u64, u64), data: [u8; DATA_LEN]) -> Position {
     }
 }
 
+// Phases and throws are numbers here: some rows have ones that no game knows.
 fn board(phase: u8, crosses: u16, noughts: u16) -> [u8; DATA_LEN] {
     let mut data = EMPTY;
     data[0] = phase;
@@ -37,15 +39,8 @@ fn throws(phase: u8, word: u8, second: u8, first: u8) -> [u8; DATA_LEN] {
     data
 }
 
-fn with(data: [u8; DATA_LEN], at: usize, byte: u8) -> [u8; DATA_LEN] {
-    let mut changed = data;
-    if at < DATA_LEN {
-        changed[at] = byte;
-    }
-    changed
-}
-
 // One row: the later turn, amounts and data before and behind the step, and whether it is lawful.
+// A tuple: with named fields each of the 64 rows would take eight lines.
 type Row = (
     u8,
     (u64, u64),
