@@ -10,7 +10,7 @@ pub const PUBLIC_LEN: usize = 32;
 
 pub const SECRET_LEN: usize = 32;
 
-// A refusal of a call about a key.
+// A refusal of a call about a key: of its match, or of none, which is 255 in a refusal.
 pub fn refusal(reason: Reason, key: u8) -> Refusal
     ensures { result ≡ refuse_key reason key }
 {

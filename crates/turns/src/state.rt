@@ -101,7 +101,7 @@ pub struct State {
     pub position: Position,
 }
 
-// What a match fixes at its opening.
+// What a match fixes at its opening. Docket, match and code stand one by one, as in a state's bytes: no function takes the three.
 #[derive(Clone, Copy, PartialEq, Eq)]
 pub struct Terms {
     pub docket: u32,
