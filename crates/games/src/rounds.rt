@@ -7,6 +7,10 @@ use turns::{Amounts, Seat, Step};
 // The last turn at which a round may begin.
 const LAST_BEGIN: u8 = 16;
 
+// A byte that names no phase of a game.
+#[derive(Clone, Copy)]
+pub(crate) struct NoPhase;
+
 // A game of rounds over one code.
 // Each writes its own short `impl Game`: that trait is of another crate, so the language refuses one impl for all of `Rounds`.
 pub(crate) trait Rounds {

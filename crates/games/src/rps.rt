@@ -2,7 +2,7 @@ ghost use Rattle.std.specs.Prelude.{◌≡◌, ◌<◌, false, MatchResult, ◌=
 ghost use Rattle.games.specs.Reading.{ReadIf};
 ghost use Rattle.games.specs.Throws.{phase, phase_number, clean, commitment, keeps_word, throw_number, winnings, result as result_of, is_throw, throws_shape, throws_stakes, throws_lawful};
 
-use crate::rounds::{Rounds, allows, may_begin};
+use crate::rounds::{NoPhase, Rounds, allows, may_begin};
 use hash::sha256;
 use turns::{DATA_LEN, Game, Step, all_zero};
 
@@ -23,10 +23,6 @@ enum Phase {
     Answered,
     Shown,
 }
-
-// A byte that names no phase.
-#[derive(Clone, Copy)]
-struct NoPhase;
 
 impl TryFrom<u8> for Phase {
     type Error = NoPhase;

@@ -3,7 +3,7 @@ ghost use Rattle.games.specs.Boards.{phase, phase_number, board_of, clean, legal
 ghost use Rattle.games.specs.Reading.{ReadIf};
 
 use crate::board::Board;
-use crate::rounds::{Rounds, allows, may_begin};
+use crate::rounds::{NoPhase, Rounds, allows, may_begin};
 use turns::{DATA_LEN, Game, Step, all_zero};
 
 // where the parts lie in a state's data
@@ -22,10 +22,6 @@ enum Phase {
     GoesOn,
     Ended,
 }
-
-// A byte that names no phase.
-#[derive(Clone, Copy)]
-struct NoPhase;
 
 impl TryFrom<u8> for Phase {
     type Error = NoPhase;

@@ -10,9 +10,8 @@ const LENGTH: usize = 8;
 fn digest_of(value: [u32; 8]) -> [u8; 32]
     ensures { result ≡ digest value }
 {
-    let mut out = [0; 32];
-    out.copy_from_slice(value.map(u32::to_be_bytes).as_flattened());
-    out
+    let bytes = value.map(u32::to_be_bytes);
+    *bytes.as_flattened().as_array().unwrap()
 }
 
 // The digest of a message of `count` bytes, from the hash value after its whole blocks and from the rest.

@@ -34,7 +34,8 @@ pub trait Scheme {
         ensures { Enrols P (means self.old) (means self.new) key public.now tt result };
 
     // Spends a turn of a key on a digest, and writes the signature into the front of the lent buffer.
-    // The clause has a message's parts one by one: definitions speak of numbers and bytes, and hold no reference.
+    // The clause has a message's parts one by one: what a scheme means is said of numbers and bytes, and a `Message` would
+    // bring a borrow into it.
     fn sign(
         &mut self,
         message: &Message<'_>,

@@ -16,6 +16,7 @@ const TERMS: Terms = Terms {
     stake: 2,
 };
 
+// Amounts as a pair: states are rows of a table, and with named fields each would take several lines.
 fn state(turn: u8, kind: Kind, (seat0, seat1): (u64, u64)) -> State {
     State {
         docket: TERMS.docket,

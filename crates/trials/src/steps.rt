@@ -40,7 +40,7 @@ fn throws(phase: u8, word: u8, second: u8, first: u8) -> [u8; DATA_LEN] {
 }
 
 // One row: the later turn, amounts and data before and behind the step, and whether it is lawful.
-// A tuple: with named fields each of the 64 rows would take eight lines.
+// A tuple: with named fields each of the 66 rows would take eight lines.
 type Row = (
     u8,
     (u64, u64),

@@ -28,7 +28,7 @@ impl<G: Game> Judge<'_, G> {
     // One line for a state that was judged to be good.
     fn tell(&self, before: &State, after: &State, verdict: &str) -> io::Result<()> {
         let turn = after.turn;
-        let seat = Seat::moving(turn) as u8;
+        let seat = u8::from(Seat::moving(turn));
         let kind = after.kind;
         let seat0 = after.position.amounts.seat0;
         let seat1 = after.position.amounts.seat1;

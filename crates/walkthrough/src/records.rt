@@ -14,6 +14,7 @@ pub(crate) fn terms(at_match: u8, code: u8) -> Terms {
     }
 }
 
+// Amounts as a pair: states are rows of a table, and with named fields each would take several lines.
 pub(crate) fn state(
     terms: &Terms,
     turn: u8,

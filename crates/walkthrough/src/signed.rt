@@ -16,7 +16,7 @@ fn key_of(state: &State) -> u8 {
     state
         .at_match
         .saturating_mul(2)
-        .saturating_add(Seat::moving(state.turn) as u8)
+        .saturating_add(u8::from(Seat::moving(state.turn)))
 }
 
 // What the keeper of a key keeps to itself, in this story.

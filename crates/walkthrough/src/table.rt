@@ -20,7 +20,8 @@ const FIRST: usize = 34;
 #[derive(Clone, Copy)]
 pub(crate) struct Meaningless;
 
-// Not that of the games, which keep theirs to themselves.
+// Not that of the games: it would be a public type with promises of its own, and the places of its bytes too, for the words of
+// one program, which is no plainer.
 #[derive(Clone, Copy)]
 pub(crate) enum Throw {
     Rock = 1,
