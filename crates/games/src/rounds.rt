@@ -1,4 +1,4 @@
-ghost use Rattle.std.specs.Prelude.{◌≡◌, ℕ, ◌*◌, Bool, if◌then◌else◌, Some, None};
+ghost use Rattle.std.specs.Prelude.{◌≡◌, ℕ, ◌*◌, Bool, true};
 ghost use Rattle.games.specs.Stakes.{may_begin, mover_first, moves, rounds_lawful};
 ghost use Rattle.turns.specs.declared.game.Step.{Step};
 
@@ -11,29 +11,28 @@ const LAST_BEGIN: u8 = 16;
 #[derive(Clone, Copy)]
 pub(crate) struct NoPhase;
 
-// A game of rounds over one code.
+// A game of rounds. Its rule has two halves, apart: the data that a step has, and what it moves.
 // Each writes its own short `impl Game`: that trait is of another crate, so the language refuses one impl for all of `Rounds`.
 pub(crate) trait Rounds {
-    const CODE: u8;
-
-    ghost CODE: { ℕ };
-
-    // Whether a step has the right data, apart from what it moves.
     ghost shape: { Step → Bool };
 
-    // How many stakes a step moves to its mover.
     ghost stakes: { Step → ℕ };
 
-    // How many stakes a step moves to its mover, if it has the right data.
-    fn stakes(step: &Step) -> Option<u8>
-        ensures { result ≡ (if shape step.now then Some (stakes step.now) else None) };
+    // Whether a step has the right data, apart from what it moves.
+    fn has_shape(step: &Step) -> bool
+        ensures { result ≡ shape step.now };
+
+    // How many stakes a step moves to its mover, where it has the right data.
+    fn stakes(step: &Step) -> u8
+        requires { shape step.now ≡ true }
+        ensures { result ≡ stakes step.now };
 }
 
-// Whether a game of rounds allows a step.
+// Whether a game of rounds allows a step of its code.
 pub(crate) fn allows<R: Rounds>(step: &Step) -> bool
-    ensures { result ≡ rounds_lawful R.CODE R.shape R.stakes step.now }
+    ensures { result ≡ rounds_lawful step.now.code R.shape R.stakes step.now }
 {
-    step.code == R::CODE && R::stakes(step).is_some_and(|stakes| moves(step, stakes))
+    R::has_shape(step) && moves(step, R::stakes(step))
 }
 
 // Whether a round may leave phase 0 with this step.

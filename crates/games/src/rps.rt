@@ -6,6 +6,8 @@ use crate::rounds::{NoPhase, Rounds, allows, may_begin};
 use hash::sha256;
 use turns::{DATA_LEN, Game, Step, all_zero};
 
+const CODE: u8 = 1;
+
 // where the parts lie in a state's data
 const PHASE: usize = 0;
 
@@ -84,6 +86,7 @@ impl Throw {
 }
 
 // The phase of data whose unused bytes are zero.
+// Each range begins at a constant: from a place that varies the bytes are tested one by one, in twice the time.
 // Not one generic function with that of boards: the trait of phases, with its ghost members, is longer than both.
 // The throws stay bytes: from phase 3 the rules do not judge them, so reading typed ones would refuse lawful steps.
 #[tactic(auto, unfolding(crate::specs::Throws::clean))]
@@ -91,13 +94,13 @@ fn phase_of(data: &[u8; DATA_LEN]) -> Option<Phase>
     ensures { ReadIf (clean «data».now) result (λ x. phase «data».now ≡ phase_number x) }
 {
     let phase = Phase::try_from(data[PHASE]).ok()?;
-    let unused = match phase {
-        Phase::Nothing => COMMITMENT,
-        Phase::Committed => SECOND,
-        Phase::Answered => FIRST,
-        Phase::Shown => DATA_LEN,
+    let clean = match phase {
+        Phase::Nothing => all_zero(&data[COMMITMENT..]),
+        Phase::Committed => all_zero(&data[SECOND..]),
+        Phase::Answered => all_zero(&data[FIRST..]),
+        Phase::Shown => true,
     };
-    all_zero(&data[unused..]).then_some(phase)
+    clean.then_some(phase)
 }
 
 #[tactic(auto, unfolding(crate::specs::Throws::commitment))]
@@ -119,32 +122,49 @@ fn keeps_word(data: &[u8; DATA_LEN]) -> bool
 pub struct RockPaperScissors;
 
 impl Rounds for RockPaperScissors {
-    const CODE: u8 = 1;
-
-    ghost CODE = { 1 };
-
     ghost shape = { throws_shape };
 
     ghost stakes = { throws_stakes };
 
-    fn stakes(step: &Step) -> Option<u8> {
+    fn has_shape(step: &Step) -> bool {
         let before = &step.before.data;
         let after = &step.after.data;
-        match (phase_of(before)?, phase_of(after)?) {
-            (Phase::Nothing, Phase::Committed) => may_begin(step).then_some(0),
+        let (Some(old), Some(new)) = (phase_of(before), phase_of(after)) else {
+            return false;
+        };
+        match (old, new) {
+            (Phase::Nothing, Phase::Committed) => may_begin(step),
             (Phase::Committed, Phase::Answered) => {
-                Throw::try_from(after[SECOND]).ok()?;
-                (commitment(after) == commitment(before)).then_some(1)
+                commitment(after) == commitment(before) && Throw::try_from(after[SECOND]).is_ok()
             }
             (Phase::Answered, Phase::Shown) => {
-                let first = Throw::try_from(after[FIRST]).ok()?;
-                let second = Throw::try_from(after[SECOND]).ok()?;
-                let kept = commitment(after) == commitment(before)
-                    && after[SECOND] == before[SECOND];
-                (kept && keeps_word(after)).then_some(first.winnings(second))
+                commitment(after) == commitment(before)
+                    && after[SECOND] == before[SECOND]
+                    && Throw::try_from(after[SECOND]).is_ok()
+                    && Throw::try_from(after[FIRST]).is_ok()
+                    && keeps_word(after)
             }
-            (Phase::Shown, Phase::Nothing) => Some(0),
-            _ => None,
+            (Phase::Shown, Phase::Nothing) => true,
+            _ => false,
+        }
+    }
+
+    // The last arm of the inner match is of no step of the right shape: both bytes are throws there.
+    #[tactic(auto, using(crate::proofs::Thrown::both_thrown))]
+    fn stakes(step: &Step) -> u8 {
+        let (before, after) = (&step.before.data, &step.after.data);
+        match Phase::try_from(before[PHASE]) {
+            Ok(Phase::Committed) => 1,
+            Ok(Phase::Answered) => {
+                match (
+                    Throw::try_from(after[FIRST]),
+                    Throw::try_from(after[SECOND]),
+                ) {
+                    (Ok(first), Ok(second)) => first.winnings(second),
+                    _ => 0,
+                }
+            }
+            Ok(Phase::Nothing | Phase::Shown) | Err(NoPhase) => 0,
         }
     }
 }
@@ -155,10 +175,10 @@ impl Game for RockPaperScissors {
     ghost lawful = { λ _. throws_lawful };
 
     fn knows(&self, code: u8) -> bool {
-        code == Self::CODE
+        code == CODE
     }
 
     fn allows(&self, step: &Step) -> bool {
-        allows::<Self>(step)
+        self.knows(step.code) && allows::<Self>(step)
     }
 }

@@ -6,6 +6,8 @@ use crate::board::Board;
 use crate::rounds::{NoPhase, Rounds, allows, may_begin};
 use turns::{DATA_LEN, Game, Step, all_zero};
 
+const CODE: u8 = 2;
+
 // where the parts lie in a state's data
 const PHASE: usize = 0;
 
@@ -39,17 +41,18 @@ impl TryFrom<u8> for Phase {
 }
 
 // The phase of data whose unused bytes are zero.
+// Each range begins at a constant: from a place that varies the bytes are tested one by one, in twice the time.
 // Not one generic function with that of throws: the trait of phases, with its ghost members, is longer than both.
 #[tactic(auto, unfolding(crate::specs::Boards::clean))]
 fn phase_of(data: &[u8; DATA_LEN]) -> Option<Phase>
     ensures { ReadIf (clean «data».now) result (λ x. phase «data».now ≡ phase_number x) }
 {
     let phase = Phase::try_from(data[PHASE]).ok()?;
-    let unused = match phase {
-        Phase::Nothing => CROSSES,
-        Phase::GoesOn | Phase::Ended => UNUSED,
+    let clean = match phase {
+        Phase::Nothing => all_zero(&data[CROSSES..]),
+        Phase::GoesOn | Phase::Ended => all_zero(&data[UNUSED..]),
     };
-    all_zero(&data[unused..]).then_some(phase)
+    clean.then_some(phase)
 }
 
 #[tactic(auto, unfolding(crate::specs::Boards::board_of))]
@@ -84,31 +87,39 @@ impl Round {
 pub struct TicTacToe;
 
 impl Rounds for TicTacToe {
-    const CODE: u8 = 2;
-
-    ghost CODE = { 2 };
-
     ghost shape = { board_shape };
 
     ghost stakes = { board_stakes };
 
-    fn stakes(step: &Step) -> Option<u8> {
-        let before = Round::read(&step.before.data)?;
-        let after = Round::read(&step.after.data)?;
+    fn has_shape(step: &Step) -> bool {
+        let (Some(before), Some(after)) = (
+            Round::read(&step.before.data),
+            Round::read(&step.after.data),
+        ) else {
+            return false;
+        };
         let marked = before.board.marks_one(&after.board);
         match (before.phase, after.phase) {
-            (Phase::Nothing, Phase::GoesOn) => (marked && may_begin(step)).then_some(1),
+            (Phase::Nothing, Phase::GoesOn) => marked && may_begin(step),
             (Phase::GoesOn, phase) => {
-                let outcome = before.board.outcome(&after.board);
-                let right = if outcome.ends() {
+                let right = if before.board.outcome(&after.board).ends() {
                     Phase::Ended
                 } else {
                     Phase::GoesOn
                 };
-                (marked && phase == right).then_some(outcome.stakes())
+                marked && phase == right
             }
-            (Phase::Ended, Phase::Nothing) => Some(0),
-            _ => None,
+            (Phase::Ended, Phase::Nothing) => true,
+            _ => false,
+        }
+    }
+
+    fn stakes(step: &Step) -> u8 {
+        let (before, after) = (&step.before.data, &step.after.data);
+        match Phase::try_from(before[PHASE]) {
+            Ok(Phase::Nothing) => 1,
+            Ok(Phase::GoesOn) => read_board(before).outcome(&read_board(after)).stakes(),
+            Ok(Phase::Ended) | Err(NoPhase) => 0,
         }
     }
 }
@@ -119,10 +130,10 @@ impl Game for TicTacToe {
     ghost lawful = { λ _. board_lawful };
 
     fn knows(&self, code: u8) -> bool {
-        code == Self::CODE
+        code == CODE
     }
 
     fn allows(&self, step: &Step) -> bool {
-        allows::<Self>(step)
+        self.knows(step.code) && allows::<Self>(step)
     }
 }

@@ -13,7 +13,7 @@ zeros_past k n lt =
     let s : n - k ≡ suc (n - 1 - k) = omega arith in
     rw (drop-replicate, s)
 
-marked_is : (n : ℕ) (rest ys : List ℕ) → ys ≡ rest → length rest < n
+pub marked_is : (n : ℕ) (rest ys : List ℕ) → ys ≡ rest → length rest < n
     → set (ys ++ post_of 0 (length rest) (replicate n 0)) (length rest) 128 ≡ rest ++ 128 ∷ replicate (n - 1 - length rest) 0
 marked_is n rest ys same lt =
     ap (λ y. set (y ++ post_of 0 (length rest) (replicate n 0)) (length rest) 128) same

@@ -15,7 +15,7 @@ word_of n t b lt =
     let byte = λ (j : ℕ) (l : j < 4). ap (λ q. get_or q j 0) (chunk_at 4 n t b lt) ∙ get_or-take 4 (drop (4 * t) b) j 0 l ∙ get_or-drop (4 * t) b j 0 in
     rw (byte 0 (omega arith), byte 1 (omega arith), byte 2 (omega arith), byte 3 (omega arith), add-zero)
 
-words_more : (n : ℕ) (b : List ℕ) → words (n + 1) b ≡ words n b ++ word n b ∷ []
+pub words_more : (n : ℕ) (b : List ℕ) → words (n + 1) b ≡ words n b ++ word n b ∷ []
 unfolding words
 words_more n b = rw add-one
 
@@ -27,7 +27,7 @@ words_step w b quads n t x high lt all now before =
     ∙ ap (λ y. words t b ++ y ∷ []) (now ∙ ap (λ qs. from_be_bytes w32 (get_or qs t [])) all ∙ word_of n t b lt)
     ∙ sym (words_more t b)
 
-extend_more : (k : ℕ) (w : List ℕ) → extend (k + 1) w ≡ more (extend k w)
+pub extend_more : (k : ℕ) (w : List ℕ) → extend (k + 1) w ≡ more (extend k w)
 unfolding extend
 extend_more k w = rw add-one
 

@@ -10,7 +10,7 @@ module _ (turn i : ℕ) where
   walk_on from m zero value = simp add-zero
   walk_on from m (suc n) value = rw (add-suc, walk_on from m n value, add_assoc) refl
 
-  walk_length : (from n : ℕ) (value : List ℕ) → length value ≡ 32 → length (walk turn i from n value) ≡ 32
+  pub walk_length : (from n : ℕ) (value : List ℕ) → length value ≡ 32 → length (walk turn i from n value) ≡ 32
   unfolding walk
   walk_length from zero value h = h
   walk_length from (suc n) value h = sha_256_length _

@@ -100,7 +100,7 @@ module _ (secret digest : List ℕ) (turn : ℕ) where
       ∙ ap (hash_at v) (sym (append-nil (joined_to (sibling secret turn) 5)))
       ∙ hash_at_joined (sibling secret turn) 5 (λ u l. tree_length secret u (beside (above turn u))) 5 [] v (lit≤ tt) h
 
-  leads_to_root : turn ≤ 31 → leads_to turn digest (signature secret turn digest) ≡ root secret
+  pub leads_to_root : turn ≤ 31 → leads_to turn digest (signature secret turn digest) ≡ root secret
   leads_to_root low =
       climb_same (λ level. hash_at (67 + level) (signature secret turn digest)) (sibling secret turn) turn (leaf turn (finished_chains turn digest (signature secret turn digest))) 5 path_is_path
       ∙ ap (λ (x : List ℕ). climb (sibling secret turn) turn (leaf turn x) 5) ends_are_ends

@@ -48,21 +48,6 @@ impl Chain {
     }
 }
 
-// Where the chains of a turn start.
-fn starts(turn: u8, secret: &Hash) -> [Hash; CHAINS]
-    ensures { (i : ℕ) → i < 67 → slice_index_or result i [] ≡ chain_start secret.now turn i }
-{
-    array::from_fn(
-        |i|
-            requires { i < 67 }
-            ensures { result ≡ chain_start secret.entry.now turn i }
-        {
-            let number = i as u8;
-            Chain { turn, number }.start(secret)
-        },
-    )
-}
-
 // The chains of a turn, each walked on from a position to another.
 pub(crate) fn walked(
     turn: u8,
@@ -84,10 +69,20 @@ pub(crate) fn walked(
 }
 
 // The chains of a turn, each at its position.
+// Not by `walked`: with an array of starts for it a signing takes 11 KiB more of stack.
 pub(crate) fn chains_at(turn: u8, positions: &[u8; CHAINS], secret: &Hash) -> [Hash; CHAINS]
     ensures { (i : ℕ) → i < 67 → slice_index_or result i [] ≡ chain_at secret.now turn i (slice_index positions.now i) }
 {
-    walked(turn, &[0; CHAINS], positions, &starts(turn, secret))
+    array::from_fn(
+        |i|
+            requires { i < 67 }
+            ensures { result ≡ chain_at secret.entry.now turn i (slice_index positions.entry.now i) }
+        {
+            let number = i as u8;
+            let chain = Chain { turn, number };
+            chain.walk(0, positions[i], chain.start(secret))
+        },
+    )
 }
 
 // The leaf of a turn.

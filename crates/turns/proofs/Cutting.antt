@@ -42,31 +42,36 @@ module _ (bytes : List ℕ) where
   at : (one_byte : List ℕ) (k : ℕ) → k < 4 → one_byte ≡ take 4 (drop 9 bytes) → get_or one_byte k 0 ≡ get_or bytes (9 + k) 0
   at one_byte k h known = ap (λ xs. get_or xs k 0) known ∙ get_or-take 4 (drop 9 bytes) k 0 h ∙ get_or-drop 9 bytes k 0
 
-  -- six parts, cut off one behind another, and what is read from them
-  pub parts_are : {mark docket one_byte seat0 seat1 last r1 r2 r3 r4 content : List ℕ} {number n0 n1 : ℕ} → Cut 5 bytes mark r1 → Cut 4 r1 docket r2 → Cut 4 r2 one_byte r3 → Cut 8 r3 seat0 r4 → Cut 8 r4 seat1 last → length last ≡ 67
-      → number ≡ from_be_bytes w32 docket → n0 ≡ from_be_bytes w64 seat0 → n1 ≡ from_be_bytes w64 seat1 → content ≡ last
-      → (length bytes ≡ 96)
-      × (record {
-        mark = mark;
+  -- what is cut off behind the mark, and what is read from it
+  pub parts_are : {mark docket one_byte r1 r2 r3 : List ℕ} {number : ℕ} → Cut 5 bytes mark r1 → Cut 4 r1 docket r2 → Cut 4 r2 one_byte r3
+      → number ≡ from_be_bytes w32 docket
+      → record {
         docket = number;
         at_match = get_or one_byte 0 0;
         code = get_or one_byte 1 0;
         turn = get_or one_byte 2 0;
         kind = get_or one_byte 3 0;
-        position = record { amounts = record { seat0 = n0; seat1 = n1 }; «data» = content };
-      } ≡ parts_of bytes)
-  unfolding docket_of position_of
-  parts_are {mark} {docket} {one_byte} {seat0} {seat1} {last} {r1} {r2} {r3} {r4} m d s a b long e e0 e1 f =
+      } ≡ parts_of bytes
+  unfolding docket_of
+  parts_are {mark} {docket} {one_byte} {r1} m d s e =
       let d' = behind 5 4 m.1 d in
       let s' = behind 9 4 d'.1 s in
-      let a' = behind 13 8 s'.1 a in
-      let b' = behind 21 8 a'.1 b in
       let n = number docket 3 (omega (arith, ap length d.0, length-take 4 r1)) ∙ ap big_endian d'.0 in
-      let n0 = number seat0 7 (omega (arith, ap length a.0, length-take 8 r3)) ∙ ap big_endian a'.0 in
-      let n1 = number seat1 7 (omega (arith, ap length b.0, length-take 8 r4)) ∙ ap big_endian b'.0 in
       let k0 = at one_byte 0 (omega arith) s'.0 in
       let k1 = at one_byte 1 (omega arith) s'.0 in
       let k2 = at one_byte 2 (omega arith) s'.0 in
       let k3 = at one_byte 3 (omega arith) s'.0 in
+      cc
+
+  -- what is cut off last, and what is read from it
+  pub position_is : {head seat0 seat1 last r3 r4 content : List ℕ} {n0 n1 : ℕ} → Cut 13 bytes head r3 → Cut 8 r3 seat0 r4 → Cut 8 r4 seat1 last → length last ≡ 67
+      → n0 ≡ from_be_bytes w64 seat0 → n1 ≡ from_be_bytes w64 seat1 → content ≡ last
+      → record { amounts = record { seat0 = n0; seat1 = n1 }; «data» = content } ≡ position_of bytes
+  unfolding position_of
+  position_is {head} {seat0} {seat1} {last} {r3} {r4} h a b long e0 e1 f =
+      let a' = behind 13 8 h.1 a in
+      let b' = behind 21 8 a'.1 b in
+      let n0 = number seat0 7 (omega (arith, ap length a.0, length-take 8 r3)) ∙ ap big_endian a'.0 in
+      let n1 = number seat1 7 (omega (arith, ap length b.0, length-take 8 r4)) ∙ ap big_endian b'.0 in
       let x : last ≡ take 67 (drop 29 bytes) = b'.1 ∙ sym (take_all 67 (drop 29 bytes) (omega (arith, length-drop 29 bytes))) in
-      (omega arith, cc)
+      cc

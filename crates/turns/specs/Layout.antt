@@ -43,17 +43,15 @@ module _ (bytes : List ℕ) where
   unfoldable pub position_of : Position
   position_of = record { amounts = amounts_of; «data» = data_of }
 
-  -- the parts of 96 bytes
+  -- what 96 bytes say between the mark and the position
   abbrev pub parts_of : Parts
   parts_of =
       record {
-        mark = between 0 5 bytes;
         docket = docket_of;
         at_match = match_of;
         code = code_of;
         turn = turn_of;
         kind = kind_byte;
-        position = position_of;
       }
 
   -- the state that bytes spell whose kind fits their turn

@@ -25,17 +25,19 @@ impl Terms {
         Ok(())
     }
 
-    // What the game is asked about two states.
-    fn asked(&self, before: &State, after: &State) -> Step
-        ensures { result ≡ asked self.now before.now after.now }
+    // Whether the game allows the step from one state to another.
+    // In a function of its own: room for a `Step` is paid for at the entry of the function that makes it, and most steps
+    // are not the game's to decide.
+    fn game_allows<G: Game>(&self, game: &G, before: &State, after: &State) -> bool
+        ensures { result ≡ G.Game.lawful game.now (asked self.now before.now after.now) }
     {
-        Step {
+        game.allows(&Step {
             code: self.code,
             stake: self.stake,
             turn: after.turn,
             before: before.position,
             after: after.position,
-        }
+        })
     }
 
     // Whether a step is lawful whose later turn is one more.
@@ -47,7 +49,7 @@ impl Terms {
             (Kind::PreFund, Kind::PreFund | Kind::PostFund) => Ok(()),
             (Kind::PostFund, Kind::PostFund) => Ok(()),
             (Kind::PostFund | Kind::Game, Kind::Game) => {
-                if game.allows(&self.asked(before, after)) {
+                if self.game_allows(game, before, after) {
                     Ok(())
                 } else {
                     Err(self.blame(Reason::Unlawful, Layer::Game, after.turn))

@@ -1,12 +1,12 @@
-ghost use Rattle.std.specs.Prelude.{◌≡◌, ◌≢◌, length, MatchOption};
+ghost use Rattle.std.specs.Prelude.{◌≡◌};
 ghost use Rattle.hash.specs.Sha256.{sha_256};
-ghost use Rattle.turns.specs.Layout.{parts_of, state_of};
+ghost use Rattle.turns.specs.Layout.{parts_of, position_of, state_of};
 ghost use Rattle.turns.specs.Proper.{proper_refusal, amounts_fit, total};
 ghost use Rattle.turns.specs.Refusals.{refuse, answer};
 
 use crate::bytes::all_zero;
 use crate::layer::Layer;
-use crate::layout::MARK;
+use crate::layout::{MARK, MARK_LEN, POSITION, STATE_LEN};
 use crate::refusal::{Reason, Refusal};
 use crate::state::{Amounts, DATA_LEN, Kind, Position, State, Terms};
 use hash::sha256;
@@ -18,42 +18,46 @@ pub fn digest(state: &[u8]) -> [u8; 32]
     sha256(state)
 }
 
-// The parts of a state's bytes, in their order.
+// What a state's bytes say of it between the mark and the position, in their order.
 #[derive(Clone, Copy)]
 struct Parts {
-    mark: [u8; 5],
     docket: u32,
     at_match: u8,
     code: u8,
     turn: u8,
     kind: u8,
-    position: Position,
 }
 
 impl Parts {
-    // The parts of 96 bytes.
-    fn of(bytes: &[u8]) -> Option<Parts>
-        ensures { MatchOption result (length bytes.now ≢ 96) (λ parts. (length bytes.now ≡ 96) × (parts ≡ parts_of bytes.now)) }
+    fn of(bytes: &[u8; STATE_LEN]) -> Parts
+        ensures { result ≡ parts_of bytes.now }
     {
-        let (mark, rest) = bytes.split_first_chunk()?;
-        let (docket, rest) = rest.split_first_chunk()?;
-        let ([at_match, code, turn, kind], rest) = rest.split_first_chunk::<4>()?;
-        let (seat0, rest) = rest.split_first_chunk()?;
-        let (seat1, rest) = rest.split_first_chunk()?;
-        let data = <[u8; DATA_LEN]>::try_from(rest).ok()?;
-        let amounts = Amounts {
-            seat0: u64::from_be_bytes(*seat0),
-            seat1: u64::from_be_bytes(*seat1),
-        };
-        Some(Parts {
-            mark: *mark,
+        let (_, rest) = bytes.split_first_chunk::<MARK_LEN>().unwrap();
+        let (docket, rest) = rest.split_first_chunk().unwrap();
+        let ([at_match, code, turn, kind], _) = rest.split_first_chunk::<4>().unwrap();
+        Parts {
             docket: u32::from_be_bytes(*docket),
             at_match: *at_match,
             code: *code,
             turn: *turn,
             kind: *kind,
-            position: Position { amounts, data },
-        })
+        }
+    }
+}
+
+// The position that stands last in a state's bytes. Apart from the parts before it, so that a refusal copies none.
+fn read_position(bytes: &[u8; STATE_LEN]) -> Position
+    ensures { result ≡ position_of bytes.now }
+{
+    let (_, rest) = bytes.split_first_chunk::<POSITION>().unwrap();
+    let (seat0, rest) = rest.split_first_chunk().unwrap();
+    let (seat1, rest) = rest.split_first_chunk().unwrap();
+    Position {
+        amounts: Amounts {
+            seat0: u64::from_be_bytes(*seat0),
+            seat1: u64::from_be_bytes(*seat1),
+        },
+        data: *rest.as_array::<DATA_LEN>().unwrap(),
     }
 }
 
@@ -93,12 +97,13 @@ impl Terms {
     pub fn read(&self, bytes: &[u8]) -> Result<State, Refusal>
         ensures { result ≡ answer (proper_refusal self.now bytes.now) (state_of bytes.now) }
     {
-        let Some(parts) = Parts::of(bytes) else {
+        let Some(bytes) = bytes.as_array::<STATE_LEN>() else {
             return Err(self.refuse(Reason::Length));
         };
-        if parts.mark != MARK {
+        if bytes[..MARK_LEN] != MARK[..] {
             return Err(self.refuse(Reason::Mark));
         }
+        let parts = Parts::of(bytes);
         if parts.docket != self.docket
             || parts.at_match != self.at_match
             || parts.code != self.code
@@ -109,7 +114,8 @@ impl Terms {
         let Some(kind) = Kind::at(turn, parts.kind) else {
             return Err(self.refuse(Reason::Kind));
         };
-        if !self.amounts_fit(kind, &parts.position) {
+        let position = read_position(bytes);
+        if !self.amounts_fit(kind, &position) {
             return Err(self.blame(Reason::Amounts, Layer::Turns, turn));
         }
         Ok(State {
@@ -118,7 +124,7 @@ impl Terms {
             code: self.code,
             turn,
             kind,
-            position: parts.position,
+            position,
         })
     }
 }
