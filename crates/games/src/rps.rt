@@ -161,7 +161,7 @@ impl Rounds for RockPaperScissors {
                     Throw::try_from(after[SECOND]),
                 ) {
                     (Ok(first), Ok(second)) => first.winnings(second),
-                    _ => 0,
+                    _ => 1,
                 }
             }
             Ok(Phase::Nothing | Phase::Shown) | Err(NoPhase) => 0,

@@ -26,8 +26,8 @@ impl Terms {
     }
 
     // Whether the game allows the step from one state to another.
-    // In a function of its own: room for a `Step` is paid for at the entry of the function that makes it, and most steps
-    // are not the game's to decide.
+    // In a function of its own: room for a `Step` is paid for at the entry of the function that makes it, and steps of
+    // funding and to a Conclude are not the game's to decide.
     fn game_allows<G: Game>(&self, game: &G, before: &State, after: &State) -> bool
         ensures { result ≡ G.Game.lawful game.now (asked self.now before.now after.now) }
     {

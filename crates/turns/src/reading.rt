@@ -45,7 +45,7 @@ impl Parts {
     }
 }
 
-// The position that stands last in a state's bytes. Apart from the parts before it, so that a refusal copies none.
+// The position that stands last in a state's bytes. Apart from the parts before it, so that no refusal but the last copies it.
 fn read_position(bytes: &[u8; STATE_LEN]) -> Position
     ensures { result ≡ position_of bytes.now }
 {
